@@ -1,0 +1,42 @@
+// Commands outside a block.
+ghost use Prim.Native.Nat.{_≤_};
+ghost use Rattle.script.specs.Left.{left};
+use crate::hash;
+use crate::page::Page;
+use script::bad::Bad;
+use script::bad::Stop;
+use script::bad::StopFromAlloc;
+use script::bad::StopFromBad;
+use script::lines::Lines;
+use script::words::split_word;
+
+// Prints why a line was not run, and goes on; only want of memory ends the program.
+pub fn settle(page: &mut Page, ran: Result<(), Stop>) -> Result<(), Stop> {
+    if let Err(Stop::Line(bad)) = ran {
+        page.error(bad)?;
+        return Ok(());
+    }
+    ran
+}
+
+// One command, which may read more lines.
+fn command(line: &[u8], lines: &mut Lines, page: &mut Page) -> Result<(), Stop>
+    ensures reads { λ _. ⌜ left (now (lines .exit)) ≤ left (now (lines .entry)) ⌝ }
+{
+    let (name, _) = split_word(line);
+    match name {
+        b"digest" => hash::digest_command(line, page),
+        b"tag" => hash::tag_command(line, page),
+        _ => Err(Stop::Line(Bad::Command)),
+    }
+}
+
+// Runs every line of a script.
+pub fn run(lines: &mut Lines, page: &mut Page) -> Result<(), Stop> {
+    while let Some(line) = lines.next_command() {
+        page.echo(line)?;
+        let ran = command(line, lines, page);
+        settle(page, ran)?;
+    }
+    Ok(())
+}

@@ -1,0 +1,6 @@
+pub mod Blocks
+pub mod Listed
+pub mod Padding
+pub mod Tags
+pub mod Window
+pub mod Wiped

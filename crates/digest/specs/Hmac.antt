@@ -1,0 +1,33 @@
+-- HMAC with SHA-256, as RFC 2104 defines it.
+use mathlib.Core.List.{_++_, map}
+use mathlib.Core.Bool.{cond}
+use Prim.Native.Nat.{ℕ, _-_}
+use lib.ListN.{length, replicate}
+use lib.Bits.{bitXor}
+use lib.Dec.{ltb}
+use Rattle.digest.specs.Bytes.{Bytes}
+use Rattle.digest.specs.Sha256.{sha256}
+
+-- a key longer than a block of 64 bytes is replaced by its digest
+unfoldable pub shortKey : Bytes → Bytes
+shortKey key = cond (ltb 64 (length key)) (sha256 key) key
+
+-- the key with zeros after it, up to a block
+unfoldable pub keyBlock : Bytes → Bytes
+keyBlock key = shortKey key ++ replicate (64 - length (shortKey key)) 0
+
+-- a block with every byte changed by a mask
+unfoldable pub masked : ℕ → Bytes → Bytes
+masked mask block = map (λ byte. bitXor byte mask) block
+
+abbrev pub ipad : ℕ
+ipad = 0x36
+
+abbrev pub opad : ℕ
+opad = 0x5c
+
+unfoldable pub inner : Bytes → Bytes → Bytes
+inner key message = sha256 (masked ipad (keyBlock key) ++ message)
+
+unfoldable pub hmac : Bytes → Bytes → Bytes
+hmac key message = sha256 (masked opad (keyBlock key) ++ inner key message)

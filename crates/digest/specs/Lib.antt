@@ -1,0 +1,10 @@
+pub mod Bytes
+pub mod Words
+pub mod Constants
+pub mod Sha256
+pub mod Hmac
+pub mod Wiped
+pub mod Answers
+pub mod Faults
+pub mod Window
+pub mod Areas

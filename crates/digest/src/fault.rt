@@ -1,0 +1,36 @@
+// Why a digest or a tag is refused.
+ghost use mathlib.Core.Path.{_≡_};
+ghost use Rattle.digest.specs.Faults.{numberOf, placeOf, finderOf};
+
+#[derive(Clone, Copy, PartialEq, Eq, Debug)]
+pub enum DigestFault {
+    MessageTooLong,
+    KeyTooLong,
+    ShortWorkingArea,
+}
+
+impl DigestFault {
+    pub fn number(&self) -> u32
+        ensures answers { λ r. ⌜ r ≡ numberOf (now (self .entry)) ⌝ }
+    {
+        match self {
+            DigestFault::MessageTooLong | DigestFault::KeyTooLong => 1,
+            DigestFault::ShortWorkingArea => 5,
+        }
+    }
+
+    pub fn place(&self) -> u32
+        ensures answers { λ r. ⌜ r ≡ placeOf (now (self .entry)) ⌝ }
+    {
+        match self {
+            DigestFault::MessageTooLong | DigestFault::ShortWorkingArea => 0,
+            DigestFault::KeyTooLong => 1,
+        }
+    }
+
+    pub fn finder(&self) -> &'static str
+        ensures answers { λ r. ⌜ now r ≡ finderOf (now (self .entry)) ⌝ }
+    {
+        "digest"
+    }
+}
