@@ -1,0 +1,63 @@
+//! The library's entry points beside plain Rust, interleaved in one run: medians of five, and their ratio.
+mod sha256;
+
+use std::hint::black_box;
+use std::time::Instant;
+
+mod library {
+    extern "C" {
+        // A slice crosses as a pointer and a length.
+        fn speed_digest(message: *const u8, length: usize, out: *mut u8, room: usize) -> u32;
+    }
+
+    pub fn digest(message: &[u8]) -> [u8; 32] {
+        let mut out = [0u8; 32];
+        let code = unsafe { speed_digest(message.as_ptr(), message.len(), out.as_mut_ptr(), out.len()) };
+        assert_eq!(code, 0);
+        out
+    }
+}
+
+const RUNS: usize = 5;
+
+fn seconds(work: &mut dyn FnMut()) -> f64 {
+    let start = Instant::now();
+    work();
+    start.elapsed().as_secs_f64()
+}
+
+fn median(mut times: Vec<f64>) -> f64 {
+    times.sort_by(f64::total_cmp);
+    times[times.len() / 2]
+}
+
+/// Runs both, one after the other, five times each, after a run of each that is not counted.
+pub fn compare(name: &str, ours: &mut dyn FnMut(), plain: &mut dyn FnMut()) {
+    ours();
+    plain();
+    let (mut a, mut b) = (Vec::new(), Vec::new());
+    for _ in 0..RUNS {
+        a.push(seconds(ours));
+        b.push(seconds(plain));
+    }
+    let (a, b) = (median(a), median(b));
+    println!("{name}: library {:.1} ms, plain Rust {:.1} ms, time ratio {:.2}, speed ratio {:.2}", 1e3 * a, 1e3 * b, a / b, b / a);
+}
+
+fn digests() {
+    let large: Vec<u8> = (0..65536u32).map(|i| (i * 7 + i / 256) as u8).collect();
+    for length in [0, 1, 55, 56, 63, 64, 65, 200, 256, 1000, 65536] {
+        assert_eq!(library::digest(&large[..length]), sha256::sha256(&large[..length]), "{length} bytes");
+    }
+    let many = |hash: fn(&[u8]) -> [u8; 32], length: usize, times: usize| {
+        for _ in 0..times {
+            black_box(hash(black_box(&large[..length])));
+        }
+    };
+    compare("digest, 64 MiB in messages of 64 KiB", &mut || many(library::digest, 65536, 1024), &mut || many(sha256::sha256, 65536, 1024));
+    compare("digest, 100,000 messages of 256 bytes", &mut || many(library::digest, 256, 100_000), &mut || many(sha256::sha256, 256, 100_000));
+}
+
+fn main() {
+    digests();
+}
