@@ -1,7 +1,8 @@
 -- The refusals of this crate: each case with its number and its place; all are found by the digest.
-use mathlib.Core.List.{List}
+use mathlib.Core.List.{List, _++_}
 use Prim.Native.Nat.{ℕ}
 use lib.Chars.{codes}
+use Rattle.std.specs.Written.{decimal}
 use Rattle.digest.specs.declared.fault.DigestFault.{DigestFault}
 use Rattle.digest.specs.declared.fault.DigestFault.the-variants.{MessageTooLong, KeyTooLong, ShortWorkingArea}
 
@@ -20,3 +21,8 @@ abbrev pub finderOf : DigestFault → List ℕ
 finderOf MessageTooLong = codes "digest"
 finderOf KeyTooLong = codes "digest"
 finderOf ShortWorkingArea = codes "digest"
+
+-- what is printed
+abbrev pub shownOf : DigestFault → List ℕ
+shownOf fault =
+    codes "refused " ++ (decimal (numberOf fault) ++ (codes " by " ++ (finderOf fault ++ (codes " at " ++ decimal (placeOf fault)))))

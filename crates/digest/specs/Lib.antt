@@ -8,3 +8,4 @@ pub mod Answers
 pub mod Faults
 pub mod Window
 pub mod Areas
+pub mod Examples

@@ -1,6 +1,8 @@
 // Why a digest or a tag is refused.
+use std::fmt;
 ghost use mathlib.Core.Path.{_≡_};
-ghost use Rattle.digest.specs.Faults.{numberOf, placeOf, finderOf};
+ghost use Rattle.std.specs.declared.option.Option.the-variants.{Some};
+ghost use Rattle.digest.specs.Faults.{numberOf, placeOf, finderOf, shownOf};
 
 #[derive(Clone, Copy, PartialEq, Eq, Debug)]
 pub enum DigestFault {
@@ -32,5 +34,16 @@ impl DigestFault {
         ensures answers { λ r. ⌜ now r ≡ finderOf (now (self .entry)) ⌝ }
     {
         "digest"
+    }
+}
+
+pub impl fmt::Display for DigestFault as DigestFaultDisplay {
+    ghost shown = { λ fault. Some (shownOf fault) };
+
+    fn fmt<W: fmt::Write>(&self, f: &mut fmt::Formatter<W>) -> fmt::Result {
+        let number = self.number();
+        let finder = self.finder();
+        let place = self.place();
+        write!(f, "refused {number} by {finder} at {place}")
     }
 }

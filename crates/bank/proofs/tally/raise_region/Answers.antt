@@ -1,0 +1,42 @@
+use mathlib.Core.Path.{_≡_, _∙_, sym, ap, ap₂, subst}
+use mathlib.Core.List.{_++_}
+use Prim.Native.Nat.{_+_, _<_, _≤_}
+use native.Mathlib.Omega.{arith}
+use lib.ListN.{length, getD, take, drop, set}
+use Rattle.bank.specs.Tally.{bits-in, raised-by, Clears}
+use Rattle.bank.proofs.TallyLaws.{raised-more, raised-stops, raised-ends, raise-clears}
+use Rattle.bank.proofs.tally.raise_region.Needs as need
+
+pub returns-then-left-eq0 : need.returns-then-left-eq0
+returns-then-left-eq0 c =
+    let now = c .loop-i .region in
+    let was = c .args .region .now in
+    let done : now ≡ raised-by (c .args .by) was =
+    sym (ap (λ m. take (c .loop-i .i) now ++ raised-by m (drop (c .loop-i .i) now)) (c .if-left-eq0 .taken) ∙ raised-stops now (c .loop-i .i))
+    ∙ c .loop-i .inv
+    in
+    record {
+      area = done;
+      law = λ h. subst (λ bytes. Clears (c .args .by) (bits-in was) (bits-in bytes)) (sym done) (raise-clears (c .args .by) was h);
+    }
+
+pub loop-i-again : need.loop-i-again
+loop-i-again c =
+    let region = c .loop-i .region in
+    let i = c .loop-i .i in
+    let within : i < length region = omega arith in
+    let fits : getD region i 0 < 256 = omega arith in
+    let more = raised-more (c .loop-i .left) region i within fits in
+    ap₂ (λ v m. take (i + 1) (set region i v) ++ raised-by m (drop (i + 1) (set region i v))) (c .clear-bits .ensures .answers) (c .saturating-sub-left .ensures)
+    ∙ more ∙ c .loop-i .inv
+
+pub returns : need.returns
+returns c =
+    let now = c .loop-i .region in
+    let was = c .args .region .now in
+    let past : length now ≤ c .loop-i .i = omega arith in
+    let done : now ≡ raised-by (c .args .by) was = sym (raised-ends (c .loop-i .left) now (c .loop-i .i) past) ∙ c .loop-i .inv in
+    record {
+      area = done;
+      law = λ h. subst (λ bytes. Clears (c .args .by) (bits-in was) (bits-in bytes)) (sym done) (raise-clears (c .args .by) was h);
+    }

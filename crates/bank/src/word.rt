@@ -1,0 +1,43 @@
+// Numbers of 32 bits in an area, four bytes each, the most significant first.
+
+ghost use mathlib.Core.Path.{_≡_};
+ghost use Prim.Native.Nat.{ℕ, _+_, _*_, _<_, _≤_};
+ghost use lib.ListN.{length};
+ghost use Rattle.bank.specs.Parts.{part, with-part};
+ghost use Rattle.bank.specs.Word.{word, bytes-of, word-area};
+
+/// The highest number that a word may hold.
+pub const LIMIT: u32 = 4_000_000_000;
+
+/// The number of one counter.
+pub fn word_at(area: &[u8], counter: u8) -> u32
+    requires room { ⌜ 4 * counter + 4 ≤ length (now area) ⌝ }
+    ensures answers { λ r. ⌜ r ≡ word (part 4 counter (now (area .entry))) ⌝ }
+{
+    let at = 4 * counter as usize;
+    u32::from_be_bytes([area[at], area[at + 1], area[at + 2], area[at + 3]])
+}
+
+/// Writes the number of one counter.
+pub fn put_word(area: &mut [u8], counter: u8, number: u32)
+    requires room { ⌜ 4 * counter + 4 ≤ length (now area) ⌝ }
+    ensures area { λ _. ⌜ now (area .exit) ≡ with-part 4 counter (now (area .entry)) (bytes-of number) ⌝ }
+{
+    let at = 4 * counter as usize;
+    area[at..at + 4].copy_from_slice(&number.to_be_bytes());
+}
+
+/// Whether there are sixteen words, none of them above the limit.
+pub fn is_usable(area: &[u8]) -> bool
+    ensures answers { λ r. ⌜ r ≡ word-area (now (area .entry)) ⌝ }
+{
+    if area.len() != 64 {
+        return false;
+    }
+    for counter in 0..16 {
+        if word_at(area, counter) > LIMIT {
+            return false;
+        }
+    }
+    true
+}

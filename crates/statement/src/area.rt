@@ -1,0 +1,17 @@
+// A part of a lent area, written whole or not at all.
+ghost use mathlib.Core.Path.{_≡_};
+ghost use mathlib.Core.List.{_++_};
+ghost use Prim.Native.Nat.{ℕ, _+_, _<_, _≤_};
+ghost use lib.ListN.{length, take, drop};
+
+// Copies `from` into the area from the place `at` on; where it does not fit the area stays as it is.
+pub fn put(area: &mut [u8], at: usize, from: &[u8])
+    ensures front { λ _. ⌜ (at + length (now (from .entry)) ≤ length (now (area .entry)) → take (at + length (now (from .entry))) (now (area .exit)) ≡ take at (now (area .entry)) ++ now (from .entry)) ⌝ }
+    ensures back { λ _. ⌜ ((k : ℕ) → at + length (now (from .entry)) ≤ k → drop k (now (area .exit)) ≡ drop k (now (area .entry))) ⌝ }
+    ensures short { λ _. ⌜ (length (now (area .entry)) < at + length (now (from .entry)) → now (area .exit) ≡ now (area .entry)) ⌝ }
+{
+    let size = from.len();
+    if at <= area.len() && size <= area.len() - at {
+        area[at..at + size].copy_from_slice(from);
+    }
+}
