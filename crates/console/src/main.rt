@@ -1,5 +1,7 @@
 // The console: runs a script of commands on the library and prints all that came back.
 mod args;
+mod banks;
+mod block;
 mod hash;
 mod page;
 mod run;

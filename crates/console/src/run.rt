@@ -1,6 +1,8 @@
 // Commands outside a block.
 ghost use Prim.Native.Nat.{_≤_};
 ghost use Rattle.script.specs.Left.{left};
+use crate::banks;
+use crate::block::settle;
 use crate::hash;
 use crate::page::Page;
 use script::bad::Bad;
@@ -10,15 +12,6 @@ use script::bad::StopFromBad;
 use script::lines::Lines;
 use script::words::split_word;
 
-// Prints why a line was not run, and goes on; only want of memory ends the program.
-pub fn settle(page: &mut Page, ran: Result<(), Stop>) -> Result<(), Stop> {
-    if let Err(Stop::Line(bad)) = ran {
-        page.error(bad)?;
-        return Ok(());
-    }
-    ran
-}
-
 // One command, which may read more lines.
 fn command(line: &[u8], lines: &mut Lines, page: &mut Page) -> Result<(), Stop>
     ensures reads { λ _. ⌜ left (now (lines .exit)) ≤ left (now (lines .entry)) ⌝ }
@@ -26,6 +19,7 @@ fn command(line: &[u8], lines: &mut Lines, page: &mut Page) -> Result<(), Stop>
     let (name, _) = split_word(line);
     match name {
         b"digest" => hash::digest_command(line, page),
+        b"bank" => banks::bank_command(line, lines, page),
         b"tag" => hash::tag_command(line, page),
         _ => Err(Stop::Line(Bad::Command)),
     }
