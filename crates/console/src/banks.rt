@@ -2,6 +2,7 @@
 ghost use Prim.Native.Nat.{_≤_};
 ghost use Rattle.script.specs.Left.{left};
 use crate::args::arguments;
+use crate::args::byte;
 use crate::block::Block;
 use crate::block::run_block;
 use crate::page::Page;
@@ -33,8 +34,8 @@ struct BankBlock<B> {
 fn value_line<B: Bank>(bank: &B, line: &[u8], page: &mut Page) -> Result<(), Stop> {
     let rest = arguments(line, 1)?;
     let (word, _) = split_word(rest);
-    let counter = number(word, 255)?;
-    match bank.value((counter & 0xff) as u8) {
+    let counter = byte(word)?;
+    match bank.value(counter) {
         Ok(n) => page.say_number("value ", n as usize)?,
         Err(fault) => bank_refused(page, fault)?,
     }
@@ -44,10 +45,10 @@ fn value_line<B: Bank>(bank: &B, line: &[u8], page: &mut Page) -> Result<(), Sto
 fn raise_line<B: Bank>(bank: &mut B, line: &[u8], page: &mut Page) -> Result<(), Stop> {
     let rest = arguments(line, 2)?;
     let (counter_word, rest) = split_word(rest);
-    let counter = number(counter_word, 255)?;
+    let counter = byte(counter_word)?;
     let (to_word, _) = split_word(rest);
     let to = number(to_word, u32::MAX)?;
-    match bank.raise((counter & 0xff) as u8, to) {
+    match bank.raise(counter, to) {
         Ok(()) => page.say("raised")?,
         Err(fault) => bank_refused(page, fault)?,
     }
@@ -64,7 +65,12 @@ impl<B: Bank> Block for BankBlock<B> as BankBlockBlock {
     }
 }
 
-fn run_bank<B: Bank + Drop>(bank: B, wrong: Option<BankFault>, lines: &mut Lines, page: &mut Page) -> Result<(), Stop>
+fn run_bank<B: Bank + Drop>(
+    bank: B,
+    wrong: Option<BankFault>,
+    lines: &mut Lines,
+    page: &mut Page,
+) -> Result<(), Stop>
     ensures reads { λ _. ⌜ left (now (lines .exit)) ≤ left (now (lines .entry)) ⌝ }
 {
     page.say_number("limit ", bank.limit() as usize)?;

@@ -1,4 +1,6 @@
 // What can be wrong with a line of a script.
+ghost use mathlib.Core.Path.{_≡_};
+ghost use Rattle.script.specs.Reasons.{reason-of};
 use std::alloc::AllocError;
 use std::alloc::Refused;
 
@@ -16,7 +18,9 @@ pub enum Bad {
 
 impl Bad {
     // The words of an error line.
-    pub fn reason(&self) -> &'static str {
+    pub fn reason(&self) -> &'static str
+        ensures answers { λ r. ⌜ now r ≡ reason-of (now (self .entry)) ⌝ }
+    {
         match *self {
             Bad::Command => "unknown command",
             Bad::WordCount => "wrong number of words",

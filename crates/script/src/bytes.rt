@@ -53,15 +53,10 @@ fn repeats(tail: &[u8]) -> Result<u32, Bad> {
     }
 }
 
-// Adds the bytes of one part, where there is room for them.
-fn add_part(part: &[u8], out: &mut Vec<u8>, heap: Global) -> Result<(), Stop> {
-    let n = leading_run(part, b'*', false);
-    let (digits, tail) = part.split_at(n);
-    if digits.is_empty() || digits.len() % 2 != 0 {
-        return Err(Stop::Line(Bad::Bytes));
-    }
-    let once = hex_bytes(digits, heap)?;
-    let times = repeats(tail)?;
+// Adds some bytes a number of times, where there is room for them.
+fn add_copies(once: &[u8], times: u32, out: &mut Vec<u8>) -> Result<(), Stop>
+    ensures bound { λ r. ⌜ made r (λ _. vec-len (now (out .exit)) ≤ 70000) ⌝ }
+{
     if once.len()
         .saturating_mul(times as usize)
         .saturating_add(out.len())
@@ -69,14 +64,30 @@ fn add_part(part: &[u8], out: &mut Vec<u8>, heap: Global) -> Result<(), Stop> {
     {
         return Err(Stop::Line(Bad::TooMany));
     }
-    for _ in 0..times {
-        out.extend_from_slice(once.as_slice())?;
+    for _i in 0..times {
+        out.extend_from_slice(once)?;
     }
     Ok(())
 }
 
+// Adds the bytes of one part, where there is room for them.
+fn add_part(part: &[u8], out: &mut Vec<u8>, heap: Global) -> Result<(), Stop>
+    ensures bound { λ r. ⌜ made r (λ _. vec-len (now (out .exit)) ≤ 70000) ⌝ }
+{
+    let n = leading_run(part, b'*', false);
+    let (digits, tail) = part.split_at(n);
+    if digits.is_empty() || digits.len() % 2 != 0 {
+        return Err(Stop::Line(Bad::Bytes));
+    }
+    let once = hex_bytes(digits, heap)?;
+    let times = repeats(tail)?;
+    add_copies(once.as_slice(), times, out)
+}
+
 // The bytes that a word says.
-pub fn read_bytes(word: &[u8], heap: Global) -> Result<Vec<u8>, Stop> {
+pub fn read_bytes(word: &[u8], heap: Global) -> Result<Vec<u8>, Stop>
+    ensures bound { λ r. ⌜ made r (λ bytes. vec-len bytes ≤ 70000) ⌝ }
+{
     let mut out = Vec::new(heap);
     if word == b"-" {
         return Ok(out);
@@ -92,13 +103,13 @@ pub fn read_bytes(word: &[u8], heap: Global) -> Result<Vec<u8>, Stop> {
     }
 }
 
-// The bytes that a word says, of which there have to be N.
-pub fn read_array<const N: usize>(word: &[u8], heap: Global) -> Result<[u8; N], Stop> {
+// The bytes that a word says, of which there have to be `size`.
+pub fn read_exactly(word: &[u8], size: usize, heap: Global) -> Result<Vec<u8>, Stop>
+    ensures bound { λ r. ⌜ made r (λ bytes. vec-len bytes ≡ size) ⌝ }
+{
     let bytes = read_bytes(word, heap)?;
-    if bytes.len() != N {
+    if bytes.len() != size {
         return Err(Stop::Line(Bad::Length));
     }
-    let mut array = [0; N];
-    array.copy_from_slice(bytes.as_slice());
-    Ok(array)
+    Ok(bytes)
 }
