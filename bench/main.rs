@@ -1,5 +1,6 @@
 //! The library's entry points beside plain Rust, interleaved in one run: medians of five, and their ratio.
 mod sha256;
+mod tally;
 
 use std::hint::black_box;
 use std::time::Instant;
@@ -8,6 +9,16 @@ mod library {
     extern "C" {
         // A slice crosses as a pointer and a length.
         fn speed_digest(message: *const u8, length: usize, out: *mut u8, room: usize) -> u32;
+        fn speed_tally_value(area: *mut u8, length: usize, counter: u8) -> u64;
+        fn speed_tally_raise(area: *mut u8, length: usize, counter: u8, to: u32) -> u32;
+    }
+
+    pub fn tally_value(area: &mut [u8], counter: u8) -> u64 {
+        unsafe { speed_tally_value(area.as_mut_ptr(), area.len(), counter) }
+    }
+
+    pub fn tally_raise(area: &mut [u8], counter: u8, to: u32) -> u32 {
+        unsafe { speed_tally_raise(area.as_mut_ptr(), area.len(), counter, to) }
     }
 
     pub fn digest(message: &[u8]) -> [u8; 32] {
@@ -58,6 +69,42 @@ fn digests() {
     compare("digest, 100,000 messages of 256 bytes", &mut || many(library::digest, 256, 100_000), &mut || many(sha256::sha256, 256, 100_000));
 }
 
+/// A bank of 4,096 bytes a counter; every raise is made on a region of ones, which is filled before each.
+fn tallies() {
+    const SIZE: usize = 4096;
+    let mut area = vec![0xffu8; 16 * SIZE];
+    let mut other = area.clone();
+    for to in [1, 7, 8, 9, 100, 20_000, 32_767, 32_768] {
+        assert_eq!(library::tally_raise(&mut area, 3, to), 0);
+        tally::raise(&mut other[3 * SIZE..4 * SIZE], to);
+        assert!(area == other && library::tally_value(&mut area, 3) == u64::from(to));
+    }
+    let times = 20_000;
+    compare(
+        "tally bank, value at 4,096 bytes",
+        &mut || (0..times).for_each(|_| _ = black_box(library::tally_value(black_box(&mut area), 3))),
+        &mut || (0..times).for_each(|_| _ = black_box(tally::value(black_box(&other[3 * SIZE..4 * SIZE])))),
+    );
+    for to in [5, 20_000, 32_768] {
+        compare(
+            &format!("tally bank, raise from 0 to {to} at 4,096 bytes"),
+            &mut || {
+                for _ in 0..times {
+                    area[3 * SIZE..4 * SIZE].fill(0xff);
+                    black_box(library::tally_raise(black_box(&mut area), 3, to));
+                }
+            },
+            &mut || {
+                for _ in 0..times {
+                    other[3 * SIZE..4 * SIZE].fill(0xff);
+                    tally::raise(black_box(&mut other[3 * SIZE..4 * SIZE]), to);
+                }
+            },
+        );
+    }
+}
+
 fn main() {
     digests();
+    tallies();
 }

@@ -13,7 +13,7 @@ use Rattle.std.specs.declared.result.Result.the-variants.{Ok, Err}
 use Rattle.std.proofs.shelf.Tests.{cases-lt, lt-ltb, cond-true}
 use Rattle.std.proofs.shelf.Ways.{tells}
 use Rattle.bank.specs.declared.fault.BankFault.{BankFault}
-use Rattle.bank.specs.Bank.{telling, raising}
+use Rattle.bank.specs.Bank.{telling, rising, raising}
 
 pub record Accepted (limit : ℕ) (numbers : List ℕ) (c to : ℕ) : Type 0 where
   pub counter : c < 16
@@ -36,3 +36,12 @@ told-number numbers c n e =
 -- a raise is accepted where nothing speaks against it
 pub raises : (limit : ℕ) (numbers : List ℕ) (c to : ℕ) → Accepted limit numbers c to → raising limit numbers c to ≡ Ok tt
 raises limit numbers c to a = grind (arith, tells)
+
+-- the same, from the two answers that the code asks for
+pub risen : (limit : ℕ) (numbers : List ℕ) (c to old most : ℕ) → _≡_ {A = Result ℕ BankFault} (Ok old) (telling numbers c) → most ≡ limit
+    → _≡_ {A = Result (Unit {0}) BankFault} (Ok tt) (rising most old c to) → Accepted limit numbers c to
+risen limit numbers c to old most told is ok =
+    let was = told-number numbers c old told in
+    let higher : old < to = grind (arith, tells) in
+    let within : to ≤ most = grind (arith, tells) in
+    record { counter = told-counter numbers c old told; higher = omega arith; within = omega arith }

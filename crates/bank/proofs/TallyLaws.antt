@@ -1,13 +1,13 @@
 -- Laws of a region's number, and of a region that is raised.
-use mathlib.Core.Path.{_≡_, refl, sym, ap, _∙_, subst}
+use mathlib.Core.Path.{_≡_, refl, sym, ap, ap₂, _∙_, subst}
 use mathlib.Core.List.{List, [], _∷_, _++_}
 use Prim.Native.Nat.{ℕ, zero, suc, _+_, _-_, _*_, _≤_, _<_}
 use native.Mathlib.Omega.{arith}
 use lib.ListN.{length, getD, set, take, drop}
 use lib.Count as count
-use Rattle.std.proofs.shelf.Lists.{at-drop-more, at-drop-all, take-more-set, drop-set-lt, append-assoc, drop-more, append-nil, take-all, take-append-drop}
+use Rattle.std.proofs.shelf.Lists.{at-drop-more, at-drop-all, take-more, take-more-set, drop-set-lt, append-assoc, drop-more, append-nil, take-all, take-append-drop}
 use Rattle.bank.specs.Tally.{bits, bits-in, zeros, ones, tally, clear, cleared, raised-by, Clears}
-use Rattle.bank.proofs.ByteLaws.{zeros-of-byte, ones-of-byte, bits-of-cleared}
+use Rattle.bank.proofs.ByteLaws.{zeros-of-byte, ones-of-byte, bits-of-cleared, cleared-whole}
 use Rattle.bank.proofs.ClearLaws.{bits-in-region, zeros-append, clear-append, clear-clears}
 
 pub tally-cons : (b : ℕ) (bs : List ℕ) → tally (b ∷ bs) ≡ zeros (bits b) + tally bs
@@ -51,6 +51,21 @@ raised-more m region i h fits =
     let whole = ap (raised-by m) (drop-more region i 0 h) in
     let joined = append-assoc (take i region) (cleared m b ∷ []) (raised-by (m - ones (bits b)) (drop (i + 1) region)) in
     cc
+
+-- a byte that is 0 has no bit to clear
+pub raised-past-zero : (m : ℕ) (region : List ℕ) (i : ℕ) → i < length region → getD region i 0 ≡ 0
+    → take (i + 1) region ++ raised-by m (drop (i + 1) region) ≡ take i region ++ raised-by m (drop i region)
+unfolding raised-by ones
+raised-past-zero m region i h e =
+    let all : m - 0 ≡ m = omega arith in
+    let front : take (i + 1) region ≡ take i region ++ 0 ∷ [] = take-more region i 0 h ∙ ap (λ b. take i region ++ b ∷ []) e in
+    let back : drop i region ≡ 0 ∷ drop (i + 1) region = drop-more region i 0 h ∙ ap (λ b. b ∷ drop (i + 1) region) e in
+    let whole : raised-by m (0 ∷ drop (i + 1) region) ≡ 0 ∷ raised-by m (drop (i + 1) region) =
+    ap₂ (λ b k. b ∷ raised-by k (drop (i + 1) region)) (cleared-whole m 0 (omega arith) (omega arith)) all
+    in
+    ap (λ xs. xs ++ raised-by m (drop (i + 1) region)) front
+    ∙ append-assoc (take i region) (0 ∷ []) (raised-by m (drop (i + 1) region))
+    ∙ ap (λ xs. take i region ++ xs) (sym (ap (raised-by m) back ∙ whole))
 
 -- the bits of a raised region are those of the region, the first that were 1 cleared
 pub bits-in-raised : (m : ℕ) (region : List ℕ) → bits-in (raised-by m region) ≡ clear m (bits-in region)

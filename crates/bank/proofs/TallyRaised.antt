@@ -204,3 +204,11 @@ area-lifted area c to s old size was a =
     was ∙ number-in area c (a .counter) ∙ ap (λ k. tally (part k c area)) (sym size ∙ sized)
     in
     ap₂ (λ k n. with-part k c area (raised-by (to - n) (part k c area))) sized held ∙ sym (cond-true (Accepts area c to) _ area ok)
+
+-- a raise of an area that cannot be used writes nothing
+pub area-untouched : (area : List ℕ) (c to : ℕ) → tally-area area ≡ false → area-raised area c to ≡ area
+area-untouched area c to no-use = go (cases-bool (Accepts area c to))
+  where
+    go : (Accepts area c to ≡ true) ⊎ (Accepts area c to ≡ false) → area-raised area c to ≡ area
+    go (inl e) = absurd (both-ways (tally-area area) no-use (accepts area c to e .usable))
+    go (inr e) = rw e

@@ -12,7 +12,7 @@ use Rattle.std.specs.Results.{isOk}
 use Rattle.std.specs.declared.result.Result.{Result}
 use Rattle.std.specs.declared.result.Result.the-variants.{Ok, Err}
 use Rattle.std.proofs.shelf.Lists.{map-set}
-use Rattle.std.proofs.shelf.Tests.{and-parts, and-from, cases-bool, eqb-true, eq-eqb, lt-ltb}
+use Rattle.std.proofs.shelf.Tests.{and-parts, and-from, cases-bool, both-ways, eqb-true, eq-eqb, lt-ltb}
 use Rattle.bank.specs.declared.fault.BankFault.{BankFault}
 use Rattle.bank.specs.Bank.{telling, raising, raised}
 use Rattle.bank.specs.Parts.{parts, part, with-part}
@@ -91,4 +91,13 @@ numbers-become area c to = go (cases-bool (isOk (raising (limit-of area) (number
         let stays : word-area (with-part 4 c area (bytes-of to)) ≡ true = word-area-with-part c to area (a .counter) (w .1) (w .0) in
         let held = words-with-part c to area (a .counter) (w .1) (word-area-length area (w .0)) in
         rw e (rw (stays, w .0) held)
+    go (inr e) = rw e
+
+-- a raise of an area that cannot be used writes nothing
+pub area-untouched : (area : List ℕ) (c to : ℕ) → word-area area ≡ false → area-raised area c to ≡ area
+area-untouched area c to no-use = go (cases-bool (isOk (raising (limit-of area) (numbers-in area) c to)))
+  where
+    go : (isOk (raising (limit-of area) (numbers-in area) c to) ≡ true) ⊎ (isOk (raising (limit-of area) (numbers-in area) c to) ≡ false)
+        → area-raised area c to ≡ area
+    go (inl e) = absurd (both-ways (word-area area) no-use (within-words area c to (accepted (limit-of area) (numbers-in area) c to e) .0))
     go (inr e) = rw e

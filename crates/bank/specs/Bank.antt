@@ -21,11 +21,13 @@ pub record Sound (numbers : List ℕ) (limit : ℕ) : Type 0 where
 abbrev pub telling : List ℕ → ℕ → Result ℕ BankFault
 telling numbers c = cond (ltb c 16) (Ok (getD numbers c 0)) (Err (NoCounter c))
 
--- What a raise of counter c to a new number answers: the first of the three refusals that is due, or that it is done.
+-- What a raise of counter c from its old number to a new one answers: the first refusal that is due, or that it is done.
+abbrev pub rising : ℕ → ℕ → ℕ → ℕ → Result (Unit {0}) BankFault
+rising limit old c to = cond (leb to old) (Err (NotHigher c)) (cond (ltb limit to) (Err (AboveLimit c)) (Ok tt))
+
+-- The same, asked of the numbers of a bank.
 abbrev pub raising : ℕ → List ℕ → ℕ → ℕ → Result (Unit {0}) BankFault
-raising limit numbers c to =
-    cond (ltb 15 c) (Err (NoCounter c))
-    (cond (leb to (getD numbers c 0)) (Err (NotHigher c)) (cond (ltb limit to) (Err (AboveLimit c)) (Ok tt)))
+raising limit numbers c to = cond (ltb 15 c) (Err (NoCounter c)) (rising limit (getD numbers c 0) c to)
 
 -- The numbers after it: the one counter is set, and a refusal changes nothing.
 abbrev pub raised : ℕ → List ℕ → ℕ → ℕ → List ℕ

@@ -1,7 +1,8 @@
 -- What each fault of a bank is told as: its number, its place and who found it.
-use mathlib.Core.List.{List}
+use mathlib.Core.List.{List, _++_}
 use Prim.Native.Nat.{ℕ}
 use lib.Chars.{codes}
+use Rattle.std.specs.Written.{decimal}
 use Rattle.bank.specs.declared.fault.BankFault.{BankFault}
 use Rattle.bank.specs.declared.fault.BankFault.the-variants.{NoCounter, NotHigher, AboveLimit, WrongArea}
 
@@ -23,3 +24,8 @@ finder-of (NoCounter c) = codes "bank"
 finder-of (NotHigher c) = codes "bank"
 finder-of (AboveLimit c) = codes "bank"
 finder-of WrongArea = codes "bank"
+
+-- What is printed of it, as in 'refused 2 by bank at 16'.
+abbrev pub shown-of : BankFault → List ℕ
+shown-of fault =
+    codes "refused " ++ (decimal (number-of fault) ++ (codes " by " ++ (finder-of fault ++ (codes " at " ++ decimal (place-of fault)))))

@@ -3,7 +3,7 @@ use crate::fault::BankFault;
 ghost use mathlib.Core.List.{List};
 ghost use mathlib.Core.Path.{_≡_};
 ghost use Prim.Native.Nat.{ℕ};
-ghost use Rattle.bank.specs.Bank.{Sound, telling, raising, raised};
+ghost use Rattle.bank.specs.Bank.{Sound, telling, rising, raising, raised};
 
 /// Sixteen numbers, counters 0 to 15, and a limit that none of them exceeds.
 pub trait Bank {
@@ -26,4 +26,17 @@ pub trait Bank {
     /// The number that no counter exceeds.
     fn limit(&self) -> u32
         ensures answers { λ r. ⌜ r ≡ bound (now (self .entry)) ⌝ };
+}
+
+/// Whether a counter may go from its old number to a new one, the refusals in their order.
+pub(crate) fn rises(limit: u32, old: u32, counter: u8, to: u32) -> Result<(), BankFault>
+    ensures answers { λ r. ⌜ r ≡ rising limit old counter to ⌝ }
+{
+    if to <= old {
+        return Err(BankFault::NotHigher(counter));
+    }
+    if to > limit {
+        return Err(BankFault::AboveLimit(counter));
+    }
+    Ok(())
 }

@@ -1,8 +1,8 @@
 // What a bank refuses: the cases, their numbers, places and finder.
 use std::fmt;
-ghost use lib.Chars.{codes};
 ghost use mathlib.Core.Path.{_≡_};
-ghost use Rattle.bank.specs.Faults.{number-of, place-of, finder-of};
+ghost use Rattle.std.specs.declared.option.Option.the-variants.{Some};
+ghost use Rattle.bank.specs.Faults.{number-of, place-of, finder-of, shown-of};
 
 /// Why a bank did not do what it was asked.
 #[derive(Clone, Copy, PartialEq, Eq, Debug)]
@@ -51,6 +51,8 @@ impl BankFault {
 }
 
 pub impl fmt::Display for BankFault as BankFaultDisplay {
+    ghost shown = { λ x. Some (shown-of x) };
+
     fn fmt<W: fmt::Write>(&self, f: &mut fmt::Formatter<W>) -> fmt::Result {
         let number = self.number();
         let finder = self.finder();

@@ -9,9 +9,15 @@ mod worked;
 
 pub use counters::Bank;
 pub use fault::BankFault;
+pub use fault::BankFaultDebug;
 pub use fault::BankFaultDisplay;
+pub use fault::BankFaultEq;
+pub use fault::BankFaultPartialEq;
 pub use tally_bank::TallyBank;
 pub use tally_bank::TallyBankBank;
 pub use word_bank::WordBank;
 pub use word_bank::WordBankBank;
 pub use worked::examples;
+
+#[cfg(test)]
+mod tests;

@@ -68,6 +68,9 @@ pub fn raise_region(region: &mut [u8], by: u32)
             return;
         }
         let byte = region[i];
+        if byte == 0 {
+            continue;
+        }
         region[i] = clear_bits(byte, left);
         left = left.saturating_sub(byte.count_ones());
     }

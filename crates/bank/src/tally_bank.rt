@@ -1,10 +1,12 @@
 // The tally bank: sixteen regions of an area, whose zero bits are the numbers.
 use crate::counters::Bank;
+use crate::counters::rises;
 use crate::fault::BankFault;
 use crate::tally::LONGEST;
 use crate::tally::count_zeros;
 use crate::tally::raise_region;
-ghost use mathlib.Core.Bool.{cond, true};
+ghost use denote.Ref.{name};
+ghost use mathlib.Core.Bool.{cond, true, false};
 ghost use mathlib.Core.Path.{_≡_};
 ghost use Prim.Native.Nat.{ℕ, _*_, _≤_};
 ghost use lib.ListN.{length};
@@ -26,6 +28,7 @@ impl<'a> TallyBank<'a> {
     /// Takes the area as it is; one that cannot be used is never written.
     pub fn open(area: &'a mut [u8]) -> Self
         ensures area { λ r. ⌜ area-of r ≡ now (area .entry) ⌝ }
+        ensures lends { λ r. ⌜ name (r .area) ≡ name (area .entry) ⌝ }
     {
         TallyBank { area }
     }
@@ -89,12 +92,7 @@ fn lift(area: &mut [u8], counter: u8, to: u32) -> Result<(), BankFault>
     ensures area { λ _. ⌜ now (area .exit) ≡ area-raised (now (area .entry)) counter to ⌝ }
 {
     let old = told(area, counter)?;
-    if to <= old {
-        return Err(BankFault::NotHigher(counter));
-    }
-    if to > most(area) {
-        return Err(BankFault::AboveLimit(counter));
-    }
+    rises(most(area), old, counter, to)?;
     let size = region_size(area);
     let at = size * counter as usize;
     raise_region(&mut area[at..at + size], to - old);
@@ -116,8 +114,10 @@ pub impl Bank for TallyBank<'_> as TallyBankBank {
         ensures answers { λ r. ⌜ r ≡ raising (limit-of (area-of (now (self .entry)))) (numbers-in (area-of (now (self .entry)))) counter to ⌝ }
         ensures becomes { λ _. ⌜ numbers-in (area-of (now (self .exit))) ≡ raised (limit-of (area-of (now (self .entry)))) (numbers-in (area-of (now (self .entry)))) counter to ⌝ }
         ensures area { λ _. ⌜ area-of (now (self .exit)) ≡ area-raised (area-of (now (self .entry))) counter to ⌝ }
+        ensures unusable { λ _. ⌜ (tally-area (area-of (now (self .entry))) ≡ false → area-of (now (self .exit)) ≡ area-of (now (self .entry))) ⌝ }
         ensures law { λ r. ⌜ (isOk r ≡ true → Raises (region-of (area-of (now (self .entry))) counter) (region-of (area-of (now (self .exit))) counter) to) ⌝ }
         ensures keeps { λ _. ⌜ limit-of (area-of (now (self .exit))) ≡ limit-of (area-of (now (self .entry))) ⌝ }
+        ensures lends { λ _. ⌜ name (now (self .exit) .area) ≡ name (now (self .entry) .area) ⌝ }
     {
         lift(self.area, counter, to)
     }

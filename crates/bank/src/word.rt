@@ -9,13 +9,27 @@ ghost use Rattle.bank.specs.Word.{word, bytes-of, word-area};
 /// The highest number that a word may hold.
 pub const LIMIT: u32 = 4_000_000_000;
 
+/// The number in four bytes.
+fn number_in(bytes: [u8; 4]) -> u32
+    ensures answers { λ r. ⌜ r ≡ word bytes ⌝ }
+{
+    u32::from_be_bytes(bytes)
+}
+
+/// The four bytes of a number.
+fn bytes_of(number: u32) -> [u8; 4]
+    ensures answers { λ r. ⌜ r ≡ bytes-of number ⌝ }
+{
+    number.to_be_bytes()
+}
+
 /// The number of one counter.
 pub fn word_at(area: &[u8], counter: u8) -> u32
     requires room { ⌜ 4 * counter + 4 ≤ length (now area) ⌝ }
     ensures answers { λ r. ⌜ r ≡ word (part 4 counter (now (area .entry))) ⌝ }
 {
     let at = 4 * counter as usize;
-    u32::from_be_bytes([area[at], area[at + 1], area[at + 2], area[at + 3]])
+    number_in([area[at], area[at + 1], area[at + 2], area[at + 3]])
 }
 
 /// Writes the number of one counter.
@@ -24,7 +38,7 @@ pub fn put_word(area: &mut [u8], counter: u8, number: u32)
     ensures area { λ _. ⌜ now (area .exit) ≡ with-part 4 counter (now (area .entry)) (bytes-of number) ⌝ }
 {
     let at = 4 * counter as usize;
-    area[at..at + 4].copy_from_slice(&number.to_be_bytes());
+    area[at..at + 4].copy_from_slice(&bytes_of(number));
 }
 
 /// Whether there are sixteen words, none of them above the limit.

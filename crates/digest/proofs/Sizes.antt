@@ -1,18 +1,17 @@
 -- Digests and tags have 32 bytes, each below 256.
-use mathlib.Core.List.{List, [], _∷_, _++_}
+use mathlib.Core.List.{List, [], _∷_}
 use mathlib.Core.Path.{_≡_, refl, sym, ap, _∙_}
-use Prim.Native.Nat.{ℕ, zero, suc, _+_, _*_, _<_}
+use Prim.Native.Nat.{ℕ, zero, suc, _*_, _<_}
 use native.Mathlib.Omega.{arith}
-use lib.ListN.{length, length-append}
+use lib.ListN.{length}
 use Rattle.std.specs.Iters.{folded}
 use Rattle.std.specs.Joined.{joined}
 use Rattle.std.specs.shelf.Lists.{All}
 use Rattle.std.proofs.shelf.Elements.{all-append}
-use Rattle.std.proofs.shelf.Bits.{mod-below}
 use Rattle.digest.specs.Bytes.{Bytes, bytes4}
 use Rattle.digest.specs.Words.{Words}
 use Rattle.digest.specs.Constants.{initial}
-use Rattle.digest.specs.Hmac.{masked, keyBlock, inner, hmac}
+use Rattle.digest.specs.Hmac.{hmac}
 use Rattle.digest.specs.Sha256.{round, rounds, schedule, summed, parsed, padded, compressed, sha256}
 
 length-summed : (xs ys : Words) → length xs ≡ length ys → length (summed xs ys) ≡ length xs

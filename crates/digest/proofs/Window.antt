@@ -1,7 +1,7 @@
 -- The sixteen words from a round on are those of the schedule, and the rounds with them those of the standard.
 use mathlib.Core.List.{[], _∷_, _++_}
 use mathlib.Core.Path.{_≡_, refl, sym, ap, _∙_}
-use mathlib.Core.Logic.{inl, inr, ⊎-elim}
+use mathlib.Core.Logic.{⊎-elim}
 use Prim.Native.Nat.{ℕ, zero, suc, _+_, _-_, _≤_, _<_}
 use native.Mathlib.Nat.{add-zero, zero-add, add-suc}
 use native.Mathlib.Numerals.{add-one}
@@ -9,10 +9,8 @@ use native.Mathlib.Omega.{arith}
 use lib.ListN.{length, getD, drop, length-append, length-drop, List·getD-append}
 use lib.Seq.{getD-drop, drop-drop, drop-append-le}
 use Rattle.std.proofs.shelf.Tests.{cases-lt}
-use Rattle.digest.specs.declared.compress.Stage.{Stage}
 use Rattle.digest.specs.Words.{Words, _⊞_, σ0, σ1}
-use Rattle.digest.specs.Constants.{K}
-use Rattle.digest.specs.Sha256.{back, nextWord, extended, schedule, round, rounds}
+use Rattle.digest.specs.Sha256.{back, nextWord, extended, schedule, rounds}
 use Rattle.digest.specs.Window.{slid, stepped, steps}
 use Rattle.digest.proofs.Listed.{listed}
 

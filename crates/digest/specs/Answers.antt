@@ -15,7 +15,7 @@ use Rattle.digest.specs.Hmac.{hmac}
 abbrev pub longest : ℕ
 longest = 65536
 
-unfoldable pub digesting : Bytes → Result Bytes DigestFault
+abbrev pub digesting : Bytes → Result Bytes DigestFault
 digesting message = cond (ltb longest (length message)) (Err MessageTooLong) (Ok (sha256 message))
 
 -- what a tag tries first
@@ -26,7 +26,7 @@ limiting key message =
     (Ok tt))
 
 -- a tag over a message with a working area of the given room
-unfoldable pub tagging : Bytes → Bytes → ℕ → Result Bytes DigestFault
+abbrev pub tagging : Bytes → Bytes → ℕ → Result Bytes DigestFault
 tagging key message room =
     cond (ltb longest (length message)) (Err MessageTooLong)
     (cond (ltb longest (length key)) (Err KeyTooLong)

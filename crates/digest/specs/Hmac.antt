@@ -9,25 +9,30 @@ use Rattle.digest.specs.Bytes.{Bytes}
 use Rattle.digest.specs.Sha256.{sha256}
 
 -- a key longer than a block of 64 bytes is replaced by its digest
-unfoldable pub shortKey : Bytes → Bytes
+abbrev pub shortKey : Bytes → Bytes
 shortKey key = cond (ltb 64 (length key)) (sha256 key) key
 
--- the key with zeros after it, up to a block
+-- a key of at most 64 bytes with zeros after it, up to a block
 unfoldable pub keyBlock : Bytes → Bytes
-keyBlock key = shortKey key ++ replicate (64 - length (shortKey key)) 0
+keyBlock key = key ++ replicate (64 - length key) 0
 
 -- a block with every byte changed by a mask
 unfoldable pub masked : ℕ → Bytes → Bytes
 masked mask block = map (λ byte. bitXor byte mask) block
 
+-- the digest of the key block, changed by a mask, and a text after it
+abbrev pub keyed : ℕ → Bytes → Bytes → Bytes
+keyed mask key text = sha256 (masked mask (keyBlock key) ++ text)
+
+-- the masks of the inner and the outer digest
 abbrev pub ipad : ℕ
 ipad = 0x36
 
 abbrev pub opad : ℕ
 opad = 0x5c
 
-unfoldable pub inner : Bytes → Bytes → Bytes
-inner key message = sha256 (masked ipad (keyBlock key) ++ message)
+abbrev pub shortHmac : Bytes → Bytes → Bytes
+shortHmac key message = keyed opad key (keyed ipad key message)
 
 unfoldable pub hmac : Bytes → Bytes → Bytes
-hmac key message = sha256 (masked opad (keyBlock key) ++ inner key message)
+hmac key message = shortHmac (shortKey key) message

@@ -24,20 +24,20 @@ rotr n x = bitOr (x / 2 ^ n) ((x * 2 ^ (32 - n)) % 2 ^ 32)
 abbrev pub shr : ℕ → ℕ → ℕ
 shr n x = x / 2 ^ n
 
-unfoldable pub Ch : ℕ → ℕ → ℕ → ℕ
+abbrev pub Ch : ℕ → ℕ → ℕ → ℕ
 Ch x y z = bitXor (bitAnd x y) (bitAnd (complement x) z)
 
-unfoldable pub Maj : ℕ → ℕ → ℕ → ℕ
+abbrev pub Maj : ℕ → ℕ → ℕ → ℕ
 Maj x y z = bitXor (bitXor (bitAnd x y) (bitAnd x z)) (bitAnd y z)
 
-unfoldable pub Σ0 : ℕ → ℕ
+abbrev pub Σ0 : ℕ → ℕ
 Σ0 x = bitXor (bitXor (rotr 2 x) (rotr 13 x)) (rotr 22 x)
 
-unfoldable pub Σ1 : ℕ → ℕ
+abbrev pub Σ1 : ℕ → ℕ
 Σ1 x = bitXor (bitXor (rotr 6 x) (rotr 11 x)) (rotr 25 x)
 
-unfoldable pub σ0 : ℕ → ℕ
+abbrev pub σ0 : ℕ → ℕ
 σ0 x = bitXor (bitXor (rotr 7 x) (rotr 18 x)) (shr 3 x)
 
-unfoldable pub σ1 : ℕ → ℕ
+abbrev pub σ1 : ℕ → ℕ
 σ1 x = bitXor (bitXor (rotr 17 x) (rotr 19 x)) (shr 10 x)

@@ -1,7 +1,8 @@
 // Writes into lent areas.
+ghost use mathlib.Core.List.{_++_};
 ghost use mathlib.Core.Path.{_≡_};
 ghost use Prim.Native.Nat.{_+_, _≤_};
-ghost use lib.ListN.{length, replicate};
+ghost use lib.ListN.{length, drop, replicate};
 ghost use Rattle.digest.specs.Areas.{placed};
 ghost use Rattle.digest.specs.Hmac.{masked};
 
@@ -19,6 +20,14 @@ pub fn clear(area: &mut [u8])
     for byte in area.iter_mut() {
         *byte = 0;
     }
+}
+
+// The first 64 bytes alone.
+pub fn clear_front(area: &mut [u8])
+    requires { ⌜ 64 ≤ length (now area) ⌝ }
+    ensures area { λ _. ⌜ now (area .exit) ≡ replicate 64 0 ++ drop 64 (now (area .entry)) ⌝ }
+{
+    clear(&mut area[0..64]);
 }
 
 pub fn mask(area: &mut [u8], mask: u8)

@@ -5,9 +5,8 @@ use crate::words::ch;
 use crate::words::maj;
 use crate::words::small_sigma0;
 use crate::words::small_sigma1;
-ghost use mathlib.Core.List.{[], _∷_};
 ghost use mathlib.Core.Path.{_≡_};
-ghost use Prim.Native.Nat.{_≤_, _<_, _+_};
+ghost use Prim.Native.Nat.{_≤_, _<_};
 ghost use lib.ListN.{length, getD};
 ghost use Rattle.digest.specs.Constants.{K};
 ghost use Rattle.digest.specs.Sha256.{round, words, summed, compressed};
@@ -94,18 +93,21 @@ fn constant(t: usize) -> u32
     ROUND_CONSTANTS[t]
 }
 
-fn one_round(v: [u32; 8], k: u32, w: u32) -> [u32; 8]
-    ensures answers { λ r. ⌜ r ≡ round k w v ⌝ }
+// Round t on the working variables with the schedule's word w.
+fn one_round(v: [u32; 8], t: usize, w: u32) -> [u32; 8]
+    requires { ⌜ t < 64 ⌝ }
+    ensures answers { λ r. ⌜ r ≡ round (getD K t 0) w v ⌝ }
 {
     let [a, b, c, d, e, f, g, h] = v;
     let t1 = h.wrapping_add(big_sigma1(e))
         .wrapping_add(ch(e, f, g))
-        .wrapping_add(k)
+        .wrapping_add(constant(t))
         .wrapping_add(w);
     let t2 = big_sigma0(a).wrapping_add(maj(a, b, c));
     [t1.wrapping_add(t2), a, b, c, d.wrapping_add(t1), e, f, g]
 }
 
+// The first word leaves, and the schedule's next word is made.
 fn slide(x: [u32; 16]) -> [u32; 16]
     ensures answers { λ r. ⌜ r ≡ slid x ⌝ }
 {
@@ -133,19 +135,21 @@ fn slide(x: [u32; 16]) -> [u32; 16]
     ]
 }
 
+// One round with the first word of the window.
 fn turn(s: Stage, t: usize) -> Stage
     requires { ⌜ t < 64 ⌝ }
     ensures answers { λ r. ⌜ r ≡ stepped t s ⌝ }
 {
     let Stage { variables, window } = s;
     Stage {
-        variables: one_round(variables, constant(t), window[0]),
+        variables: one_round(variables, t, window[0]),
         window: slide(window),
     }
 }
 
+// Written out, so that the compiler keeps every word in a register.
 fn sixteen_rounds(s0: Stage, t: usize) -> Stage
-    requires { ⌜ t ≤ 48 ⌝ }
+    requires { ⌜ t ≤ 32 ⌝ }
     ensures answers { λ r. ⌜ r ≡ steps 16 t s0 ⌝ }
 {
     let s1 = turn(s0, t);
@@ -167,13 +171,40 @@ fn sixteen_rounds(s0: Stage, t: usize) -> Stage
     s16
 }
 
-fn all_rounds(s: Stage) -> Stage
-    ensures answers { λ r. ⌜ r ≡ steps 64 0 s ⌝ }
+// The last sixteen rounds: every word of the schedule is made before them.
+fn closing_rounds(s: Stage) -> [u32; 8]
+    ensures answers { λ r. ⌜ r ≡ steps 16 48 s .variables ⌝ }
+{
+    let Stage {
+        variables: v0,
+        window: x,
+    } = s;
+    let v1 = one_round(v0, 48, x[0]);
+    let v2 = one_round(v1, 49, x[1]);
+    let v3 = one_round(v2, 50, x[2]);
+    let v4 = one_round(v3, 51, x[3]);
+    let v5 = one_round(v4, 52, x[4]);
+    let v6 = one_round(v5, 53, x[5]);
+    let v7 = one_round(v6, 54, x[6]);
+    let v8 = one_round(v7, 55, x[7]);
+    let v9 = one_round(v8, 56, x[8]);
+    let v10 = one_round(v9, 57, x[9]);
+    let v11 = one_round(v10, 58, x[10]);
+    let v12 = one_round(v11, 59, x[11]);
+    let v13 = one_round(v12, 60, x[12]);
+    let v14 = one_round(v13, 61, x[13]);
+    let v15 = one_round(v14, 62, x[14]);
+    let v16 = one_round(v15, 63, x[15]);
+    v16
+}
+
+fn all_rounds(s: Stage) -> [u32; 8]
+    ensures answers { λ r. ⌜ r ≡ steps 64 0 s .variables ⌝ }
 {
     let a = sixteen_rounds(s, 0);
     let b = sixteen_rounds(a, 16);
     let c = sixteen_rounds(b, 32);
-    sixteen_rounds(c, 48)
+    closing_rounds(c)
 }
 
 fn sum(x: [u32; 8], y: [u32; 8]) -> [u32; 8]
@@ -207,6 +238,7 @@ fn block_words(block: &[u8]) -> [u32; 16]
     x
 }
 
+// The hash value after one more block.
 pub fn compress(value: [u32; 8], block: &[u8]) -> [u32; 8]
     requires { ⌜ length (now block) ≡ 64 ⌝ }
     ensures answers { λ r. ⌜ r ≡ compressed value (words (now (block .entry))) ⌝ }
@@ -215,5 +247,5 @@ pub fn compress(value: [u32; 8], block: &[u8]) -> [u32; 8]
         variables: value,
         window: block_words(block),
     });
-    sum(last.variables, value)
+    sum(last, value)
 }

@@ -6,8 +6,11 @@ ghost use Rattle.digest.specs.Faults.{numberOf, placeOf, finderOf, shownOf};
 
 #[derive(Clone, Copy, PartialEq, Eq, Debug)]
 pub enum DigestFault {
+    /// The message has more than 65,536 bytes.
     MessageTooLong,
+    /// The key has more than 65,536 bytes.
     KeyTooLong,
+    /// The working area has fewer than 64 bytes.
     ShortWorkingArea,
 }
 

@@ -14,6 +14,6 @@ pub use fault::DigestFault;
 pub use fault::DigestFaultDebug;
 pub use fault::DigestFaultDisplay;
 pub use fault::DigestFaultPartialEq;
-pub use hmac::digest;
 pub use hmac::tag;
 pub use hmac::wipe;
+pub use sha256::digest;

@@ -2,17 +2,21 @@
 use crate::areas::clear;
 use crate::areas::put;
 use crate::compress::compress;
+use crate::fault::DigestFault;
 ghost use mathlib.Core.List.{_++_};
 ghost use mathlib.Core.Bool.{cond};
 ghost use mathlib.Core.Path.{_≡_};
-ghost use Prim.Native.Nat.{_+_, _%_, _^_, _<_};
+ghost use Prim.Native.Nat.{_+_, _*_, _%_, _^_, _<_};
 ghost use lib.Dec.{ltb};
 ghost use lib.ListN.{length};
 ghost use Rattle.std.specs.Iters.{folded};
 ghost use Rattle.std.specs.Joined.{joined};
-ghost use Rattle.digest.specs.Bytes.{bytes4};
-ghost use Rattle.digest.specs.Constants.{initial};
+ghost use Rattle.digest.specs.Answers.{digesting};
+ghost use Rattle.digest.specs.Bytes.{bytes4, bytes8};
 ghost use Rattle.digest.specs.Sha256.{padding, parsed, compressed, sha256};
+
+// A digest and a tag take a message of at most this many bytes.
+pub const LONGEST_MESSAGE: usize = 65_536;
 
 pub const INITIAL: [u32; 8] = [
     0x6a09_e667,
@@ -37,6 +41,14 @@ fn absorb(value: [u32; 8], bytes: &[u8]) -> [u32; 8]
     hash
 }
 
+// A length in bytes as the padding has it: in bits.
+fn bit_length(total: usize) -> [u8; 8]
+    requires { ⌜ total < 2 ^ 32 ⌝ }
+    ensures answers { λ r. ⌜ r ≡ bytes8 (8 * total) ⌝ }
+{
+    (8 * total as u64).to_be_bytes()
+}
+
 // The last one or two blocks of a message of `total` bytes: what is left of it after its whole blocks, and the padding.
 fn pad(area: &mut [u8], rest: &[u8], total: usize)
     requires left { ⌜ length (now rest) ≡ total % 64 ⌝ }
@@ -44,7 +56,7 @@ fn pad(area: &mut [u8], rest: &[u8], total: usize)
     requires fits { ⌜ total < 2 ^ 32 ⌝ }
     ensures area { λ _. ⌜ now (area .exit) ≡ now (rest .entry) ++ padding total ⌝ }
 {
-    let bits = (8 * total as u64).to_be_bytes();
+    let bits = bit_length(total);
     let end = area.len() - 8;
     clear(area);
     put(area, 0, rest);
@@ -52,6 +64,7 @@ fn pad(area: &mut [u8], rest: &[u8], total: usize)
     put(area, end, &bits);
 }
 
+// The words of a value as bytes, each with its most significant byte first.
 fn value_bytes(value: [u32; 8]) -> [u8; 32]
     ensures answers { λ r. ⌜ r ≡ joined bytes4 value ⌝ }
 {
@@ -89,9 +102,20 @@ pub fn finish(value: [u32; 8], before: usize, message: &[u8]) -> [u8; 32]
     value_bytes(value)
 }
 
+// SHA-256 of a message within no limit of the calls: theirs is tried before.
 pub fn hash(message: &[u8]) -> [u8; 32]
     requires { ⌜ length (now message) < 2 ^ 32 ⌝ }
     ensures answers { λ r. ⌜ r ≡ sha256 (now (message .entry)) ⌝ }
 {
     finish(INITIAL, 0, message)
+}
+
+/// The SHA-256 digest of a message of at most 65,536 bytes.
+pub fn digest(message: &[u8]) -> Result<[u8; 32], DigestFault>
+    ensures answers { λ r. ⌜ r ≡ digesting (now (message .entry)) ⌝ }
+{
+    if message.len() > LONGEST_MESSAGE {
+        return Err(DigestFault::MessageTooLong);
+    }
+    Ok(hash(message))
 }

@@ -2,14 +2,17 @@
 use super::Lent;
 use super::WordBank;
 use crate::counters::Bank;
+use crate::counters::rises;
 use crate::fault::BankFault;
 use crate::word::LIMIT;
 use crate::word::is_usable;
 use crate::word::put_word;
 use crate::word::word_at;
-ghost use denote.Ref.{now};
-ghost use mathlib.Core.Bool.{cond};
+ghost use denote.Ref.{now, name};
+ghost use mathlib.Core.Bool.{cond, false};
 ghost use mathlib.Core.Path.{_≡_};
+ghost use Prim.Native.Nat.{_<_};
+ghost use lib.ListN.{length};
 ghost use Rattle.std.specs.declared.option.Option.the-variants.{Some, None};
 ghost use Rattle.bank.specs.declared.fault.BankFault.the-variants.{WrongArea};
 ghost use Rattle.bank.specs.Bank.{telling, raising, raised};
@@ -21,6 +24,7 @@ impl<'a> WordBank<'a> {
     /// Takes the area as it is; one that cannot be used is never written.
     pub fn open(area: &'a mut [u8]) -> Self
         ensures area { λ r. ⌜ area-of r ≡ now (area .entry) ⌝ }
+        ensures lends { λ r. ⌜ name (r .lent .area) ≡ name (area .entry) ⌝ }
     {
         let usable = is_usable(area);
         WordBank {
@@ -68,6 +72,7 @@ fn told(lent: &Lent, counter: u8) -> Result<u32, BankFault>
 fn most(lent: &Lent) -> u32
     requires known { ⌜ now lent .usable ≡ word-area (now (now lent .area)) ⌝ }
     ensures answers { λ r. ⌜ r ≡ limit-of (now (now (lent .entry) .area)) ⌝ }
+    ensures room { λ r. ⌜ (0 < r → length (now (now (lent .entry) .area)) ≡ 64) ⌝ }
 {
     if lent.usable { LIMIT } else { 0 }
 }
@@ -78,13 +83,10 @@ fn lift(lent: &mut Lent, counter: u8, to: u32) -> Result<(), BankFault>
     ensures answers { λ r. ⌜ r ≡ raising (limit-of (now (now (lent .entry) .area))) (numbers-in (now (now (lent .entry) .area))) counter to ⌝ }
     ensures area { λ _. ⌜ now (now (lent .exit) .area) ≡ area-raised (now (now (lent .entry) .area)) counter to ⌝ }
     ensures keeps { λ _. ⌜ now (lent .exit) .usable ≡ now (lent .entry) .usable ⌝ }
+    ensures lends { λ _. ⌜ name (now (lent .exit) .area) ≡ name (now (lent .entry) .area) ⌝ }
 {
-    if to <= told(lent, counter)? {
-        return Err(BankFault::NotHigher(counter));
-    }
-    if to > most(lent) {
-        return Err(BankFault::AboveLimit(counter));
-    }
+    let old = told(lent, counter)?;
+    rises(most(lent), old, counter, to)?;
     put_word(lent.area, counter, to);
     Ok(())
 }
@@ -103,8 +105,10 @@ pub impl Bank for WordBank<'_> as WordBankBank {
     fn raise(&mut self, counter: u8, to: u32) -> Result<(), BankFault>
         ensures answers { λ r. ⌜ r ≡ raising (limit-of (area-of (now (self .entry)))) (numbers-in (area-of (now (self .entry)))) counter to ⌝ }
         ensures becomes { λ _. ⌜ numbers-in (area-of (now (self .exit))) ≡ raised (limit-of (area-of (now (self .entry)))) (numbers-in (area-of (now (self .entry)))) counter to ⌝ }
-        ensures keeps { λ _. ⌜ limit-of (area-of (now (self .exit))) ≡ limit-of (area-of (now (self .entry))) ⌝ }
         ensures area { λ _. ⌜ area-of (now (self .exit)) ≡ area-raised (area-of (now (self .entry))) counter to ⌝ }
+        ensures unusable { λ _. ⌜ (word-area (area-of (now (self .entry))) ≡ false → area-of (now (self .exit)) ≡ area-of (now (self .entry))) ⌝ }
+        ensures keeps { λ _. ⌜ limit-of (area-of (now (self .exit))) ≡ limit-of (area-of (now (self .entry))) ⌝ }
+        ensures lends { λ _. ⌜ name (now (self .exit) .lent .area) ≡ name (now (self .entry) .lent .area) ⌝ }
     {
         lift(&mut self.lent, counter, to)
     }

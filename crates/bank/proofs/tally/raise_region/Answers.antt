@@ -4,7 +4,7 @@ use Prim.Native.Nat.{_+_, _<_, _≤_}
 use native.Mathlib.Omega.{arith}
 use lib.ListN.{length, getD, take, drop, set}
 use Rattle.bank.specs.Tally.{bits-in, raised-by, Clears}
-use Rattle.bank.proofs.TallyLaws.{raised-more, raised-stops, raised-ends, raise-clears}
+use Rattle.bank.proofs.TallyLaws.{raised-more, raised-past-zero, raised-stops, raised-ends, raise-clears}
 use Rattle.bank.proofs.tally.raise_region.Needs as need
 
 pub returns-then-left-eq0 : need.returns-then-left-eq0
@@ -19,6 +19,11 @@ returns-then-left-eq0 c =
       area = done;
       law = λ h. subst (λ bytes. Clears (c .args .by) (bits-in was) (bits-in bytes)) (sym done) (raise-clears (c .args .by) was h);
     }
+
+pub loop-i-again-then-byte-eq0 : need.loop-i-again-then-byte-eq0
+loop-i-again-then-byte-eq0 c =
+    let within : c .loop-i .i < length (c .loop-i .region) = omega arith in
+    raised-past-zero (c .loop-i .left) (c .loop-i .region) (c .loop-i .i) within (c .if-byte-eq0 .taken) ∙ c .loop-i .inv
 
 pub loop-i-again : need.loop-i-again
 loop-i-again c =

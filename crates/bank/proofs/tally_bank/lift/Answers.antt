@@ -6,7 +6,7 @@ use Rattle.bank.specs.Parts.{part, with-part}
 use Rattle.bank.specs.Tally.{raised-by}
 use Rattle.bank.specs.TallyArea.{numbers-in, limit-of}
 use Rattle.bank.proofs.PartLaws.{part-ends, written-part}
-use Rattle.bank.proofs.Raising.{Accepted, told-counter, told-number, raises}
+use Rattle.bank.proofs.Raising.{Accepted, told-counter, told-number, risen, raises}
 use Rattle.bank.proofs.TallyRaised.{area-lifted}
 use Rattle.bank.proofs.tally_bank.lift.Needs as need
 
@@ -24,7 +24,7 @@ returns c =
     let told = c .in-Continue-old .ensures tt .answers in
     let was = told-number (numbers-in area) n (c .in-Continue-old .old) told in
     let a : Accepted (limit-of area) (numbers-in area) n to =
-    record { counter = told-counter (numbers-in area) n (c .in-Continue-old .old) told; higher = omega arith; within = omega arith }
+    risen (limit-of area) (numbers-in area) n to (c .in-Continue-old .old) (c .most .result) told (c .most .ensures .answers) (c .in-Continue-rises .ensures tt .answers)
     in
     let whole : s * n + s - s * n ≡ s = omega arith in
     record {

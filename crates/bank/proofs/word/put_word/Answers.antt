@@ -11,5 +11,5 @@ returns c =
     record {
       area =
           written-part 4 (c .args .counter) _ (c .args .area .now) (c .copy-from-slice .last .self) four
-          ∙ ap (with-part 4 (c .args .counter) (c .args .area .now)) (c .copy-from-slice .ensures .after ∙ c .to-be-bytes .ensures);
+          ∙ ap (with-part 4 (c .args .counter) (c .args .area .now)) (c .copy-from-slice .ensures .after ∙ c .bytes-of .ensures .answers);
     }

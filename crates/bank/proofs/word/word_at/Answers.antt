@@ -6,4 +6,4 @@ use Rattle.bank.proofs.WordLaws.{word-part}
 use Rattle.bank.proofs.word.word_at.Needs as need
 
 pub returns : need.returns
-returns c = record { answers = c .from-be-bytes .ensures ∙ sym (word-part (c .args .counter) (c .args .area .now)) }
+returns c = record { answers = c .number-in .ensures .answers ∙ sym (word-part (c .args .counter) (c .args .area .now)) }

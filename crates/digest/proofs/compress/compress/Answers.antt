@@ -1,9 +1,9 @@
-use mathlib.Core.Path.{_≡_, refl, sym, ap, _∙_}
+use mathlib.Core.Path.{_≡_, refl}
 use Prim.Native.Nat.{_≤_}
 use lib.Dec.{lit≤}
 use lib.ListN.{length}
 use Rattle.digest.specs.Bytes.{Bytes}
-use Rattle.digest.specs.Sha256.{words, summed, compressed}
+use Rattle.digest.specs.Sha256.{words, compressed}
 use Rattle.digest.proofs.Window.{reached}
 use Rattle.digest.proofs.compress.compress.Needs as need
 

@@ -1,4 +1,3 @@
-use mathlib.Core.Path.{refl}
 use Rattle.digest.specs.Window.{stepped}
 use Rattle.digest.proofs.compress.turn.Needs as need
 

@@ -1,4 +1,4 @@
-use mathlib.Core.List.{_∷_, [], _++_, map}
+use mathlib.Core.List.{map}
 use mathlib.Core.Path.{_≡_, sym, ap, _∙_}
 use Prim.Native.Nat.{ℕ, _+_, _-_, _*_, _/_}
 use native.Mathlib.Nat.{zero-add}

@@ -1,12 +1,12 @@
-use mathlib.Core.List.{_∷_, [], _++_}
+use mathlib.Core.List.{[], _++_}
 use mathlib.Core.Path.{_≡_, sym, ap, _∙_}
-use Prim.Native.Nat.{ℕ, _+_, _*_, _≤_, _<_}
+use Prim.Native.Nat.{ℕ, _+_, _*_, _≤_}
 use borrow.Author.Needs.{needs}
 use native.Mathlib.Omega.{arith}
-use lib.ListN.{length, take, drop, getD}
+use lib.ListN.{length, take, getD}
 use Rattle.std.specs.Joined.{joined}
 use Rattle.std.proofs.shelf.Lists.{take-more, take-all, joined-more}
-use Rattle.digest.specs.Bytes.{Bytes, bytes4}
+use Rattle.digest.specs.Bytes.{bytes4}
 use Rattle.digest.specs.Areas.{placed}
 use Rattle.digest.specs.Words.{Words}
 use Rattle.digest.proofs.Listed.{take-placed}
