@@ -4,9 +4,10 @@ use mathlib.Core.Bool.{true}
 use mathlib.Core.List.{List, [], _∷_, _++_}
 use Prim.Native.Nat.{ℕ, _+_, _%_, _≤_, _<_}
 use native.Mathlib.Omega.{arith}
+use lib.Dec.{eqb, leb}
 use lib.ListN.{length, getD, take, drop}
 use Rattle.std.proofs.shelf.Lists.{take-at, drop-at, drop-drop, getD-drop, length-append}
-use Rattle.std.proofs.shelf.Tests.{and-from, eq-eqb, le-leb, lt-ltb}
+use Rattle.std.proofs.shelf.Tests.{and-from, and-parts, eq-eqb, eqb-true, le-leb, leb-true, lt-ltb}
 use Rattle.statement.specs.declared.types.SignedStatement.{SignedStatement}
 use Rattle.statement.specs.Layout.{encoded-signed, decoded-signed, SizedSigned}
 use Rattle.statement.proofs.Layouts.{length-encoded-signed, decoded-encoded-signed}
@@ -57,3 +58,11 @@ recorded-is-record s digest words h d short odd small rises =
     (and-from _ _ (eq-eqb (counter-of r % 2) 1 (ap (λ z. z % 2) (t .counter) ∙ odd))
     (and-from _ _ (le-leb (counter-of r) 15 (omega (arith, t .counter)))
     (lt-ltb (old-of r) (new-of r) (omega (arith, t .old, t .new))))))
+
+-- a record keeps within its limit
+pub record-short : (r : List ℕ) → is-record r ≡ true → length r ≤ 314
+unfolding is-record
+record-short r h =
+    let a = and-parts (eqb (length r) (114 + size-of r)) _ h in
+    let b = and-parts (leb (size-of r) 200) _ (a .1) in
+    omega (arith, eqb-true (length r) (114 + size-of r) (a .0), leb-true (size-of r) 200 (b .0))

@@ -5,6 +5,7 @@ mod layout;
 mod signed;
 mod types;
 
+pub use area::clear;
 pub use area::put;
 pub use equality::SignedStatementEq;
 pub use equality::SignedStatementPartialEq;
