@@ -2,6 +2,7 @@
 mod args;
 mod banks;
 mod block;
+mod dongles;
 mod hash;
 mod page;
 mod run;

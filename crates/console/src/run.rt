@@ -3,6 +3,7 @@ ghost use Prim.Native.Nat.{_≤_};
 ghost use Rattle.script.specs.Left.{left};
 use crate::banks;
 use crate::block::settle;
+use crate::dongles;
 use crate::hash;
 use crate::page::Page;
 use script::bad::Bad;
@@ -20,6 +21,7 @@ fn command(line: &[u8], lines: &mut Lines, page: &mut Page) -> Result<(), Stop>
     match name {
         b"digest" => hash::digest_command(line, page),
         b"bank" => banks::bank_command(line, lines, page),
+        b"dongle" => dongles::dongle_command(line, lines, page),
         b"tag" => hash::tag_command(line, page),
         _ => Err(Stop::Line(Bad::Command)),
     }

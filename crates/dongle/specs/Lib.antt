@@ -1,0 +1,5 @@
+pub mod Faults
+pub mod Trinket
+pub mod Presses
+pub mod First
+pub mod Recent
