@@ -29,3 +29,14 @@ pub fn array<const N: usize>(word: &[u8], heap: Global) -> Result<[u8; N], Stop>
     array.copy_from_slice(bytes.as_slice());
     Ok(array)
 }
+
+// Which of two words it is; false for the first.
+pub fn choice(word: &[u8], first: &[u8], second: &[u8]) -> Result<bool, Bad> {
+    if word == first {
+        return Ok(false);
+    }
+    if word == second {
+        return Ok(true);
+    }
+    Err(Bad::Word)
+}

@@ -4,6 +4,7 @@ ghost use Rattle.script.specs.Left.{left};
 use crate::args::arguments;
 use crate::args::array;
 use crate::args::byte;
+use crate::args::choice;
 use crate::block::Block;
 use crate::block::run_block;
 use crate::page::Page;
@@ -169,17 +170,6 @@ fn run_plan(area: &mut [u8], plan: &Plan, lines: &mut Lines, page: &mut Page) ->
         return run_over(TallyBank::open(area), plan, lines, page);
     }
     run_over(WordBank::open(area), plan, lines, page)
-}
-
-// Which of two words it is; false for the first.
-pub fn choice(word: &[u8], first: &[u8], second: &[u8]) -> Result<bool, Bad> {
-    if word == first {
-        return Ok(false);
-    }
-    if word == second {
-        return Ok(true);
-    }
-    Err(Bad::Word)
 }
 
 pub fn dongle_command(line: &[u8], lines: &mut Lines, page: &mut Page) -> Result<(), Stop>

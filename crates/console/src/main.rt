@@ -6,6 +6,7 @@ mod dongles;
 mod hash;
 mod page;
 mod run;
+mod stores;
 
 use crate::page::Page;
 use script::bad::Stop;

@@ -1,1 +1,3 @@
 mod Kept
+mod Replies
+pub mod Runs

@@ -3,3 +3,4 @@ pub mod Trinket
 pub mod Presses
 pub mod First
 pub mod Recent
+pub mod Laws

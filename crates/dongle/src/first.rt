@@ -1,7 +1,9 @@
 // The first dongle: over any bank.
 use crate::fault::DongleFault;
 use crate::fault::DongleFaultFromBank;
+use crate::sign::number_of;
 use crate::sign::sign;
+use crate::sign::state;
 use crate::trinket::Dongle;
 use bank::Bank;
 use digest::wipe;
@@ -25,12 +27,12 @@ pub struct FirstDongle<B> {
 
 impl<B: Bank> FirstDongle<B> {
     /// Takes a bank as it stands.
-    pub fn new(bank: B, identity: [u8; 8], key: [u8; 32]) -> Self
-        ensures answers { λ r. ⌜ (r .bank ≡ bank) × (r .identity ≡ identity) × (r .key ≡ key) ⌝ }
+    pub fn new(bank: B, id: [u8; 8], key: [u8; 32]) -> Self
+        ensures answers { λ r. ⌜ (r .bank ≡ bank) × (r .identity ≡ id) × (r .key ≡ key) ⌝ }
     {
         FirstDongle {
             bank,
-            identity,
+            identity: id,
             key,
         }
     }
@@ -106,31 +108,9 @@ pub impl<B: Bank> Dongle for FirstDongle<B> as FirstDongleDongle {
         nonce: [u8; 32],
         working: &mut [u8],
     ) -> Result<SignedStatement, DongleFault> {
-        if working.len() < 64 {
-            wipe(working);
-            return Err(DongleFault::ShortWorkingArea);
-        }
-        match self.value(counter) {
-            Ok(number) => {
-                let identity = self.identity;
-                let key = self.key;
-                Ok(sign(
-                    key,
-                    Statement {
-                        identity,
-                        counter,
-                        old: number,
-                        new: number,
-                        matter: nonce,
-                    },
-                    working,
-                ))
-            }
-            Err(fault) => {
-                wipe(working);
-                Err(fault)
-            }
-        }
+        let identity = self.identity;
+        let key = self.key;
+        state(&self.bank, identity, key, counter, nonce, working)
     }
 
     fn identity(&self) -> [u8; 8] {
@@ -142,7 +122,6 @@ pub impl<B: Bank> Dongle for FirstDongle<B> as FirstDongleDongle {
     }
 
     fn value(&self, counter: u8) -> Result<u32, DongleFault> {
-        let number = self.bank.value(counter)?;
-        Ok(number)
+        number_of(&self.bank, counter)
     }
 }

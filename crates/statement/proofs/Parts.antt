@@ -5,7 +5,7 @@ use mathlib.Core.List.{List, [], _∷_, _++_}
 use Prim.Native.Nat.{ℕ, _+_, _≤_, _<_}
 use native.Mathlib.Nat.{zero-add}
 use native.Mathlib.Omega.{arith}
-use lib.ListN.{length, take, drop}
+use lib.ListN.{length, take, drop, replicate}
 use lib.Dec.{leb}
 use Rattle.std.proofs.shelf.Lists.{take-append-drop}
 use Rattle.std.proofs.shelf.Tests.{cond-both, leb-true, leb-false}
@@ -38,3 +38,13 @@ fronted n s t x y h e front back short =
     (λ b. let le = leb-true n (length s) b in
     whole n s t y (ap (λ k. take k t) (sym (zero-add n)) ∙ (grown 0 n s t [] x refl h front (omega arith) ∙ e)) (back n (omega arith)))
     (λ b. let gt = leb-false n (length s) b in short (omega arith))
+
+-- the front of an area zeroed
+pub cleared :
+    (s t : List ℕ) (n : ℕ) →
+    n ≤ length s →
+    (0 + n ≤ length s → take (0 + n) t ≡ take 0 s ++ replicate n 0) →
+    ((k : ℕ) → 0 + n ≤ k → drop k t ≡ drop k s) →
+    t ≡ replicate n 0 ++ drop n s
+cleared s t n h front back =
+    whole n s t (replicate n 0) (ap (λ k. take k t) (sym (zero-add n)) ∙ front (omega arith)) (back n (omega arith))

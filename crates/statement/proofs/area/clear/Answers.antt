@@ -16,9 +16,9 @@ returns-then-size-area c =
     let k : (at + n) - at ≡ n = omega arith in
     let l : length x ≡ n = c .fill .ensures .len ∙ (length-take-le ((at + n) - at) (drop at a) (omega (arith, length-drop at a)) ∙ k) in
     let f : x ≡ replicate n 0 =
-      c .fill .ensures .after (λ y h. h) ∙ ap (λ m. replicate m 0) (sym (c .fill .ensures .len) ∙ l) in
-    record
-      { front = λ h. take-putMid at ((at + n) - at) a x (at + n) (omega arith) (omega arith) ∙ ap (λ z. take at a ++ z) f
-      ; back = λ m h. drop-putMid at ((at + n) - at) a x m (omega arith) (omega arith) (l ∙ sym k)
-      ; short = λ h. absurd (omega arith)
-      }
+    c .fill .ensures .after (λ y h. h) ∙ ap (λ m. replicate m 0) (sym (c .fill .ensures .len) ∙ l) in
+    record {
+      front = λ h. take-putMid at ((at + n) - at) a x (at + n) (omega arith) (omega arith) ∙ ap (λ z. take at a ++ z) f;
+      back = λ m h. drop-putMid at ((at + n) - at) a x m (omega arith) (omega arith) (l ∙ sym k);
+      short = λ h. absurd (omega arith);
+    }

@@ -1,0 +1,4 @@
+pub mod Compacting
+pub mod Images
+pub mod Logs
+pub mod Smallest

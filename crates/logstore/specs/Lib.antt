@@ -1,0 +1,4 @@
+pub mod Examples
+pub mod Log
+pub mod LogStores
+pub mod Places

@@ -1,0 +1,12 @@
+use native.Mathlib.Omega.{arith}
+use Rattle.std.proofs.shelf.Ways.{tells}
+use Rattle.slotstore.specs.Rows.{row-stays}
+use Rattle.slotstore.proofs.search.is_kept.Needs as need
+
+pub returns-then-row-queue : need.returns-then-row-queue
+unfolding row-stays
+returns-then-row-queue c = record { answers = grind (arith, tells) }
+
+pub returns-else-row-queue : need.returns-else-row-queue
+unfolding row-stays
+returns-else-row-queue c = record { answers = grind (arith, tells) }

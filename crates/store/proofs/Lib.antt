@@ -1,0 +1,4 @@
+pub mod Covers
+pub mod Histories
+pub mod Puts
+pub mod Sets
