@@ -1,16 +1,15 @@
 -- Laws of the bits of a byte: what a count of them gives, and what clearing the next of them leaves.
 use mathlib.Core.Path.{_≡_, refl, sym, ap, _∙_}
-use mathlib.Core.Bool.{Bool, true, false, cond, _&&_}
-use mathlib.Core.List.{List, [], _∷_, _++_}
-use Prim.Native.Nat.{ℕ, zero, suc, _+_, _-_, _*_, _/_, _%_, _^_, _≤_, _<_}
+use mathlib.Core.Bool.{Bool, true, _&&_}
+use mathlib.Core.List.{List, [], _∷_}
+use Prim.Native.Nat.{ℕ, zero, suc, _+_, _-_, _/_, _%_, _^_, _≤_, _<_}
 use native.Mathlib.Omega.{arith}
-use lib.Dec.{eqb, leb, ltb}
-use lib.ListN.{length, replicate}
+use lib.Dec.{eqb}
+use lib.ListN.{length}
 use lib.Count.{leadingZeros, onesIn}
 use lib.Count as count
-use Rattle.std.specs.Orderings.{Decides}
-use Rattle.std.proofs.shelf.Ways.{decides-below-and, decides-eqb, decides-ltb}
-use Rattle.bank.specs.Tally.{bits, value-after, bits-in, zeros, ones, clear, next-cleared, cleared}
+use Rattle.std.proofs.shelf.Ways.{decides-below-and, decides-eqb}
+use Rattle.bank.specs.Tally.{bits, value-after, zeros, ones, clear, next-cleared, cleared}
 use Rattle.bank.proofs.ClearLaws.{Bits, bits-of-byte, length-clear, clear-bits, clear-suc, clear-none, clear-all}
 
 -- a test that passes at every byte, computed one byte after the other

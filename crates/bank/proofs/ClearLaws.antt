@@ -1,14 +1,14 @@
 -- Laws of bits, and of clearing the first of them that are 1.
 use mathlib.Core.Path.{_≡_, refl, sym, ap, _∙_}
-use mathlib.Core.Bool.{Bool, true, false, cond}
+use mathlib.Core.Bool.{cond}
 use mathlib.Core.List.{List, [], _∷_, _++_}
 use mathlib.Core.Logic.{_⊎_, inl, inr}
-use Prim.Native.Nat.{ℕ, zero, suc, _+_, _-_, _*_, _/_, _%_, _≤_, _<_}
+use Prim.Native.Nat.{ℕ, zero, suc, _+_, _-_, _≤_, _<_}
 use native.Mathlib.Nat.{zero-add, add-assoc, sub-zero}
 use native.Mathlib.Omega.{arith}
 use lib.Dec.{eqb}
 use lib.ListN.{length, getD, take, drop, replicate}
-use Rattle.bank.specs.Tally.{bits, value-after, bits-in, zeros, ones, tally, clear, next-cleared, cleared, raised-by, Clears}
+use Rattle.bank.specs.Tally.{bits, bits-in, zeros, ones, clear, cleared, Clears}
 
 -- each is 0 or 1
 abbrev pub Bits : List ℕ → Type 0

@@ -1,13 +1,13 @@
 -- Laws of an area cut into equal parts: what stands in each, and what a write to one leaves.
-use mathlib.Core.Path.{_≡_, refl, sym, ap, _∙_}
+use mathlib.Core.Path.{_≡_, sym, ap, _∙_}
 use mathlib.Core.List.{List, [], _∷_, _++_, map}
 use Prim.Native.Nat.{ℕ, zero, suc, _+_, _-_, _*_, _≤_, _<_}
-use native.Mathlib.Nat.{mul-comm, mul-suc, mul-zero, mul-le-mul-left, zero-add, add-zero, add-assoc, add-comm, suc-mul, not-suc-le-zero, le-of-suc-le-suc}
+use native.Mathlib.Nat.{mul-suc, mul-zero, mul-le-mul-left, zero-add, add-assoc, add-comm, not-suc-le-zero, le-of-suc-le-suc}
 use native.Mathlib.Omega.{arith}
 use lib.ListN.{length, getD, set, take, drop}
 use borrow.Rule.Slice.PartMut.{putMid}
 use lib.Seq.{take-add}
-use Rattle.std.proofs.shelf.Lists.{length-take, length-drop, length-append, drop-drop, take-at, drop-at, take-append-le, drop-append-le, append-assoc, getD-map, getD-set-same}
+use Rattle.std.proofs.shelf.Lists.{length-take, length-drop, length-append, drop-drop, take-at, drop-at, append-assoc, getD-map, getD-set-same}
 use Rattle.bank.specs.Parts.{parts, part, with-part}
 use Rattle.bank.specs.Soundness.{length-parts}
 

@@ -1,19 +1,20 @@
 -- What a raise that is accepted tells, for any bank.
-use mathlib.Core.Path.{_≡_, refl, sym, ap, _∙_}
-use mathlib.Core.Bool.{Bool, true, false, cond}
+use mathlib.Core.Path.{_≡_, ap, _∙_}
+use mathlib.Core.Bool.{true, false}
 use mathlib.Core.List.{List}
-use mathlib.Core.Logic.{_⊎_, inl, inr}
+use mathlib.Core.Logic.{_⊎_, inl, inr, ⊎-elim}
 use Prim.Native.Nat.{ℕ, _≤_, _<_}
 use native.Mathlib.Omega.{arith}
-use lib.Dec.{ltb, leb}
-use lib.ListN.{getD}
+use lib.Dec.{ltb}
+use lib.ListN.{length, getD, set}
 use Rattle.std.specs.Results.{isOk}
 use Rattle.std.specs.declared.result.Result.{Result}
-use Rattle.std.specs.declared.result.Result.the-variants.{Ok, Err}
-use Rattle.std.proofs.shelf.Tests.{cases-lt, lt-ltb, cond-true}
+use Rattle.std.specs.declared.result.Result.the-variants.{Ok}
+use Rattle.std.proofs.shelf.Tests.{lt-ltb, cond-true, cases-bool, cases-eq, both-ways}
+use Rattle.std.proofs.shelf.Lists.{getD-set-same, getD-set-other, length-set}
 use Rattle.std.proofs.shelf.Ways.{tells}
 use Rattle.bank.specs.declared.fault.BankFault.{BankFault}
-use Rattle.bank.specs.Bank.{telling, rising, raising}
+use Rattle.bank.specs.Bank.{Sound, telling, rising, raising, raised, Raise}
 
 pub record Accepted (limit : ℕ) (numbers : List ℕ) (c to : ℕ) : Type 0 where
   pub counter : c < 16
@@ -45,3 +46,44 @@ risen limit numbers c to old most told is ok =
     let higher : old < to = grind (arith, tells) in
     let within : to ≤ most = grind (arith, tells) in
     record { counter = told-counter numbers c old told; higher = omega arith; within = omega arith }
+
+-- only the counter that is raised changes, and only to a number within the limit
+pub raise-by-rule : (limit : ℕ) (numbers : List ℕ) (c to : ℕ) → Sound numbers limit → Raise limit numbers c to
+raise-by-rule limit numbers c to s = go (cases-bool (isOk (raising limit numbers c to)))
+  where
+    go : (isOk (raising limit numbers c to) ≡ true) ⊎ (isOk (raising limit numbers c to) ≡ false) → Raise limit numbers c to
+    go (inl e) =
+        let a = accepted limit numbers c to e in
+        let counter : c < length numbers = omega (arith, a .counter, s .sixteen) in
+        let is : raised limit numbers c to ≡ set numbers c to = rw e in
+        let sets : getD (raised limit numbers c to) c 0 ≡ to = ap (λ ns. getD ns c 0) is ∙ getD-set-same numbers c to 0 counter in
+        let others : (k : ℕ) → (k ≡ c → ⊥) → getD (raised limit numbers c to) k 0 ≡ getD numbers k 0 =
+        λ k ne. ap (λ ns. getD ns k 0) is ∙ getD-set-other numbers c k to 0 ne
+        in
+        record {
+          accepts = (λ _. (omega (arith, a .counter), a .higher, a .within), λ _. e);
+          sets = λ _. sets;
+          others = others;
+          refuses = λ no-raise. absurd (both-ways _ no-raise e);
+          sound =
+              record {
+                sixteen = ap length is ∙ length-set numbers c to ∙ s .sixteen;
+                within =
+                    λ k h.
+                    ⊎-elim (λ same. omega (arith, ap (λ i. getD (raised limit numbers c to) i 0) same, sets, a .within)) (λ ne. omega (arith, others k ne, s .within k h))
+                    (cases-eq k c);
+                most = s .most;
+              };
+        }
+    go (inr e) =
+        let is : raised limit numbers c to ≡ numbers = rw e in
+        record {
+          accepts = (
+            λ ok. absurd (both-ways _ e ok),
+            λ h. ap isOk (raises limit numbers c to (record { counter = omega (arith, h .0); higher = h .1; within = h .2 })),
+          );
+          sets = λ ok. absurd (both-ways _ e ok);
+          others = λ k _. ap (λ ns. getD ns k 0) is;
+          refuses = λ _. is;
+          sound = rw e s;
+        }

@@ -1,13 +1,13 @@
 -- Laws of a region's number, and of a region that is raised.
 use mathlib.Core.Path.{_≡_, refl, sym, ap, ap₂, _∙_, subst}
 use mathlib.Core.List.{List, [], _∷_, _++_}
-use Prim.Native.Nat.{ℕ, zero, suc, _+_, _-_, _*_, _≤_, _<_}
+use Prim.Native.Nat.{ℕ, suc, _+_, _-_, _≤_, _<_}
 use native.Mathlib.Omega.{arith}
 use lib.ListN.{length, getD, set, take, drop}
 use lib.Count as count
 use Rattle.std.proofs.shelf.Lists.{at-drop-more, at-drop-all, take-more, take-more-set, drop-set-lt, append-assoc, drop-more, append-nil, take-all, take-append-drop}
 use Rattle.bank.specs.Tally.{bits, bits-in, zeros, ones, tally, clear, cleared, raised-by, Clears}
-use Rattle.bank.proofs.ByteLaws.{zeros-of-byte, ones-of-byte, bits-of-cleared, cleared-whole}
+use Rattle.bank.proofs.ByteLaws.{zeros-of-byte, bits-of-cleared, cleared-whole}
 use Rattle.bank.proofs.ClearLaws.{bits-in-region, zeros-append, clear-append, clear-clears}
 
 pub tally-cons : (b : ℕ) (bs : List ℕ) → tally (b ∷ bs) ≡ zeros (bits b) + tally bs
@@ -38,16 +38,15 @@ length-raised-by m [] = refl
 length-raised-by m (b ∷ bs) = ap suc (length-raised-by (m - ones (bits b)) bs)
 
 -- one byte is written, and the others stand before it as they are and after it as they will be
-pub raised-more : (m : ℕ) (region : List ℕ) (i : ℕ) → i < length region → getD region i 0 < 256
-    → take (i + 1) (set region i (cleared m (getD region i 0))) ++ raised-by (m - count.ones (getD region i 0)) (drop (i + 1) (set region i (cleared m (getD region i 0))))
+pub raised-more : (m : ℕ) (region : List ℕ) (i : ℕ) → i < length region
+    → take (i + 1) (set region i (cleared m (getD region i 0))) ++ raised-by (m - ones (bits (getD region i 0))) (drop (i + 1) (set region i (cleared m (getD region i 0))))
     ≡ take i region ++ raised-by m (drop i region)
 unfolding raised-by
-raised-more m region i h fits =
+raised-more m region i h =
     let b = getD region i 0 in
     let past : i < i + 1 = omega arith in
     let front = take-more-set region i (cleared m b) h in
     let back = drop-set-lt (i + 1) region i (cleared m b) past in
-    let held = ones-of-byte b fits in
     let whole = ap (raised-by m) (drop-more region i 0 h) in
     let joined = append-assoc (take i region) (cleared m b ∷ []) (raised-by (m - ones (bits b)) (drop (i + 1) region)) in
     cc

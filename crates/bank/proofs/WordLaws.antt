@@ -1,15 +1,15 @@
 -- Laws of the words in an area, and of the test that none of them is above the limit.
-use mathlib.Core.Path.{_≡_, refl, sym, ap, _∙_}
-use mathlib.Core.Bool.{Bool, true, false, cond, _&&_}
-use mathlib.Core.List.{List, [], _∷_, map}
+use mathlib.Core.Path.{_≡_, refl, ap, _∙_}
+use mathlib.Core.Bool.{true, false, _&&_}
+use mathlib.Core.List.{List, [], _∷_}
 use Prim.Native.Nat.{ℕ, zero, suc, _+_, _*_, _≤_, _<_}
-use native.Mathlib.Nat.{add-zero, not-suc-le-zero, le-of-suc-le-suc}
+use native.Mathlib.Nat.{add-zero}
 use native.Mathlib.Omega.{arith}
 use lib.Dec.{leb}
 use lib.ListN.{length, getD, set, drop}
 use Rattle.std.proofs.shelf.Lists.{at-drop-more, at-drop-all, getD-take, getD-drop}
-use Rattle.std.proofs.shelf.Tests.{and-parts, leb-true, le-leb, lt-leb, and-from}
-use Rattle.bank.specs.Parts.{parts, part}
+use Rattle.std.proofs.shelf.Tests.{and-parts, le-leb, lt-leb, and-from}
+use Rattle.bank.specs.Parts.{part}
 use Rattle.bank.specs.Word.{word, words, none-above}
 use Rattle.bank.proofs.PartLaws.{getD-map-parts}
 

@@ -1,10 +1,11 @@
 -- What a bank means: sixteen numbers and a limit that none of them exceeds.
 use mathlib.Core.Path.{_≡_}
-use mathlib.Core.Bool.{Bool, cond}
+use mathlib.Core.Bool.{true, false, cond}
 use mathlib.Core.List.{List}
 use Prim.Native.Nat.{ℕ, _<_, _≤_}
 use lib.Dec.{ltb, leb}
 use lib.ListN.{length, getD, set}
+use Rattle.std.specs.Orderings.{Decides}
 use Rattle.std.specs.Results.{isOk}
 use Rattle.std.specs.declared.result.Result.{Result}
 use Rattle.std.specs.declared.result.Result.the-variants.{Ok, Err}
@@ -32,3 +33,14 @@ raising limit numbers c to = cond (ltb 15 c) (Err (NoCounter c)) (rising limit (
 -- The numbers after it: the one counter is set, and a refusal changes nothing.
 abbrev pub raised : ℕ → List ℕ → ℕ → ℕ → List ℕ
 raised limit numbers c to = cond (isOk (raising limit numbers c to)) (set numbers c to) numbers
+
+-- What a raise does to a sound bank: which are accepted, what is set, what stays, and that the bank stays sound.
+pub record Raise (limit : ℕ) (numbers : List ℕ) (c to : ℕ) : Type 0 where
+  pub accepts : Decides (isOk (raising limit numbers c to)) ((c ≤ 15) × (getD numbers c 0 < to) × (to ≤ limit))
+  pub sets : isOk (raising limit numbers c to) ≡ true → getD (raised limit numbers c to) c 0 ≡ to
+  pub others : (k : ℕ) → (k ≡ c → ⊥) → getD (raised limit numbers c to) k 0 ≡ getD numbers k 0
+  pub refuses : isOk (raising limit numbers c to) ≡ false → raised limit numbers c to ≡ numbers
+  pub sound : Sound (raised limit numbers c to) limit
+
+abbrev pub Raises-by-rule : Type 0
+Raises-by-rule = (limit : ℕ) (numbers : List ℕ) (c to : ℕ) → Sound numbers limit → Raise limit numbers c to

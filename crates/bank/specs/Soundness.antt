@@ -1,14 +1,14 @@
 -- What every area means as a bank is sound. A bank hands this over as a part of being one, so it is shown here.
-use mathlib.Core.Path.{_≡_, refl, sym, ap, _∙_}
+use mathlib.Core.Path.{_≡_, refl, ap, _∙_}
 use mathlib.Core.Bool.{Bool, true, false, cond, _&&_}
-use mathlib.Core.List.{List, [], _∷_, _++_, map}
+use mathlib.Core.List.{List, [], _∷_, map}
 use mathlib.Core.Logic.{_⊎_, inl, inr}
-use Prim.Native.Nat.{ℕ, zero, suc, _+_, _*_, _/_, _%_, _≤_, _<_}
+use Prim.Native.Nat.{ℕ, zero, suc, _*_, _%_, _≤_, _<_}
 use native.Mathlib.Nat.{not-suc-le-zero, le-of-suc-le-suc}
 use native.Mathlib.Omega.{arith}
 use lib.Dec.{leb, ltb, eqb, lit≤}
 use lib.ListN.{length, getD, take, drop, replicate}
-use Rattle.std.proofs.shelf.Lists.{length-map, length-append, length-take, getD-map, getD-replicate}
+use Rattle.std.proofs.shelf.Lists.{length-map, length-append, length-take, getD-replicate}
 use Rattle.std.proofs.shelf.Tests.{and-parts, leb-true, cases-bool}
 use Rattle.bank.specs.Bank.{Sound}
 use Rattle.bank.specs.Parts.{parts}

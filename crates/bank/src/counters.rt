@@ -7,10 +7,12 @@ ghost use Rattle.bank.specs.Bank.{Sound, telling, rising, raising, raised};
 
 /// Sixteen numbers, counters 0 to 15, and a limit that none of them exceeds.
 pub trait Bank {
+    // The sixteen numbers, and the limit.
     ghost numbers: { Self → List ℕ };
 
     ghost bound: { Self → ℕ };
 
+    // Each bank shows that there are sixteen, none above the limit.
     ghost sound: { (b : Self) → Sound (numbers b) (bound b) };
 
     /// A counter's number.

@@ -18,6 +18,7 @@ pub use tally_bank::TallyBankBank;
 pub use word_bank::WordBank;
 pub use word_bank::WordBankBank;
 pub use worked::examples;
+pub use worked::raise_law;
 
 #[cfg(test)]
 mod tests;

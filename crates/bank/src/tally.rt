@@ -2,37 +2,59 @@
 
 ghost use mathlib.Core.Bool.{cond};
 ghost use mathlib.Core.Path.{_≡_};
-ghost use Prim.Native.Nat.{ℕ, _≤_};
+ghost use Prim.Native.Nat.{ℕ, _+_, _≤_};
 ghost use lib.Dec.{leb};
 ghost use lib.ListN.{length};
 ghost use Rattle.std.specs.declared.option.Option.the-variants.{Some, None};
-ghost use Rattle.bank.specs.Tally.{bits-in, ones, tally, next-cleared, cleared, raised-by, Clears};
+ghost use Rattle.bank.specs.Tally.{bits, bits-in, ones, tally, next-cleared, cleared, raised-by, Clears};
 
 /// The most bytes that a region may have.
 pub const LONGEST: usize = 4096;
+
+/// The most significant bit of a byte that is still 1, or 0 where none is.
+fn next_bit(byte: u8) -> u8
+    ensures answers { λ r. ⌜ next-cleared byte + r ≡ byte ⌝ }
+{
+    if byte == 0 {
+        return 0;
+    }
+    0x80 >> byte.leading_zeros()
+}
 
 /// A byte once its next bit is cleared, the most significant that is still 1.
 pub fn clear_next(byte: u8) -> u8
     ensures answers { λ r. ⌜ r ≡ next-cleared byte ⌝ }
 {
-    if byte == 0 {
-        return 0;
+    byte - next_bit(byte)
+}
+
+/// How many bits of a byte are 1: with so many cleared it is 0.
+fn held(byte: u8) -> u32
+    ensures answers { λ r. ⌜ r ≡ ones (bits byte) ⌝ }
+    ensures whole { λ r. ⌜ ((m : ℕ) → r ≤ m → cleared m byte ≡ 0) ⌝ }
+{
+    byte.count_ones()
+}
+
+/// A byte once its next bits are cleared, one after another.
+fn clear_each(byte: u8, many: u32) -> u8
+    ensures answers { λ r. ⌜ r ≡ cleared many byte ⌝ }
+{
+    let mut rest = byte;
+    for _ in 0..many {
+        rest = clear_next(rest);
     }
-    byte - (0x80 >> byte.leading_zeros())
+    rest
 }
 
 /// A byte once its next bits are cleared, this many of them or all.
 pub fn clear_bits(byte: u8, many: u32) -> u8
     ensures answers { λ r. ⌜ r ≡ cleared many byte ⌝ }
 {
-    if byte.count_ones() <= many {
+    if held(byte) <= many {
         return 0;
     }
-    let mut rest = byte;
-    for _ in 0..many {
-        rest = clear_next(rest);
-    }
-    rest
+    clear_each(byte, many)
 }
 
 /// The count of zero bits in a region that is not too long for it.
@@ -72,6 +94,6 @@ pub fn raise_region(region: &mut [u8], by: u32)
             continue;
         }
         region[i] = clear_bits(byte, left);
-        left = left.saturating_sub(byte.count_ones());
+        left = left.saturating_sub(held(byte));
     }
 }

@@ -8,7 +8,7 @@ use crate::tally::raise_region;
 ghost use denote.Ref.{name};
 ghost use mathlib.Core.Bool.{cond, true, false};
 ghost use mathlib.Core.Path.{_≡_};
-ghost use Prim.Native.Nat.{ℕ, _*_, _≤_};
+ghost use Prim.Native.Nat.{_*_, _≤_};
 ghost use lib.ListN.{length};
 ghost use Rattle.std.specs.Results.{isOk};
 ghost use Rattle.std.specs.declared.option.Option.the-variants.{Some, None};
@@ -30,7 +30,7 @@ impl<'a> TallyBank<'a> {
         ensures area { λ r. ⌜ area-of r ≡ now (area .entry) ⌝ }
         ensures lends { λ r. ⌜ name (r .area) ≡ name (area .entry) ⌝ }
     {
-        TallyBank { area }
+        Self { area }
     }
 
     /// What is wrong with the area, if it cannot be used.
@@ -58,6 +58,7 @@ fn region_size(area: &[u8]) -> usize
     ensures answers { λ r. ⌜ r ≡ cond (tally-area (now (area .entry))) (size-of (now (area .entry))) 0 ⌝ }
     ensures fits { λ r. ⌜ r * 16 ≤ length (now (area .entry)) ⌝ }
     ensures short { λ r. ⌜ r ≤ 4096 ⌝ }
+    ensures none { λ r. ⌜ (r ≡ 0 → tally-area (now (area .entry)) ≡ false) ⌝ }
 {
     let size = area.len() / 16;
     if size * 16 == area.len() && size <= LONGEST {
@@ -87,7 +88,7 @@ fn most(area: &[u8]) -> u32
 }
 
 /// Raises a counter in the area.
-fn lift(area: &mut [u8], counter: u8, to: u32) -> Result<(), BankFault>
+fn raise_in(area: &mut [u8], counter: u8, to: u32) -> Result<(), BankFault>
     ensures answers { λ r. ⌜ r ≡ raising (limit-of (now (area .entry))) (numbers-in (now (area .entry))) counter to ⌝ }
     ensures area { λ _. ⌜ now (area .exit) ≡ area-raised (now (area .entry)) counter to ⌝ }
 {
@@ -97,6 +98,18 @@ fn lift(area: &mut [u8], counter: u8, to: u32) -> Result<(), BankFault>
     let at = size * counter as usize;
     raise_region(&mut area[at..at + size], to - old);
     Ok(())
+}
+
+/// Raises a counter in the area: what that makes of the bank, by what it makes of the bytes.
+fn lift(area: &mut [u8], counter: u8, to: u32) -> Result<(), BankFault>
+    ensures answers { λ r. ⌜ r ≡ raising (limit-of (now (area .entry))) (numbers-in (now (area .entry))) counter to ⌝ }
+    ensures becomes { λ _. ⌜ numbers-in (now (area .exit)) ≡ raised (limit-of (now (area .entry))) (numbers-in (now (area .entry))) counter to ⌝ }
+    ensures area { λ _. ⌜ now (area .exit) ≡ area-raised (now (area .entry)) counter to ⌝ }
+    ensures unusable { λ _. ⌜ (tally-area (now (area .entry)) ≡ false → now (area .exit) ≡ now (area .entry)) ⌝ }
+    ensures law { λ r. ⌜ (isOk r ≡ true → Raises (region-of (now (area .entry)) counter) (region-of (now (area .exit)) counter) to) ⌝ }
+    ensures keeps { λ _. ⌜ limit-of (now (area .exit)) ≡ limit-of (now (area .entry)) ⌝ }
+{
+    raise_in(area, counter, to)
 }
 
 pub impl Bank for TallyBank<'_> as TallyBankBank {

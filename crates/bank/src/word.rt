@@ -1,13 +1,13 @@
 // Numbers of 32 bits in an area, four bytes each, the most significant first.
 
 ghost use mathlib.Core.Path.{_≡_};
-ghost use Prim.Native.Nat.{ℕ, _+_, _*_, _<_, _≤_};
+ghost use Prim.Native.Nat.{_+_, _*_, _≤_};
 ghost use lib.ListN.{length};
 ghost use Rattle.bank.specs.Parts.{part, with-part};
 ghost use Rattle.bank.specs.Word.{word, bytes-of, word-area};
 
 /// The highest number that a word may hold.
-pub const LIMIT: u32 = 4_000_000_000;
+pub(crate) const LIMIT: u32 = 4_000_000_000;
 
 /// The number in four bytes.
 fn number_in(bytes: [u8; 4]) -> u32
@@ -24,7 +24,7 @@ fn bytes_of(number: u32) -> [u8; 4]
 }
 
 /// The number of one counter.
-pub fn word_at(area: &[u8], counter: u8) -> u32
+pub(crate) fn word_at(area: &[u8], counter: u8) -> u32
     requires room { ⌜ 4 * counter + 4 ≤ length (now area) ⌝ }
     ensures answers { λ r. ⌜ r ≡ word (part 4 counter (now (area .entry))) ⌝ }
 {
@@ -33,7 +33,7 @@ pub fn word_at(area: &[u8], counter: u8) -> u32
 }
 
 /// Writes the number of one counter.
-pub fn put_word(area: &mut [u8], counter: u8, number: u32)
+pub(crate) fn put_word(area: &mut [u8], counter: u8, number: u32)
     requires room { ⌜ 4 * counter + 4 ≤ length (now area) ⌝ }
     ensures area { λ _. ⌜ now (area .exit) ≡ with-part 4 counter (now (area .entry)) (bytes-of number) ⌝ }
 {
@@ -42,7 +42,7 @@ pub fn put_word(area: &mut [u8], counter: u8, number: u32)
 }
 
 /// Whether there are sixteen words, none of them above the limit.
-pub fn is_usable(area: &[u8]) -> bool
+pub(crate) fn is_usable(area: &[u8]) -> bool
     ensures answers { λ r. ⌜ r ≡ word-area (now (area .entry)) ⌝ }
 {
     if area.len() != 64 {

@@ -1,12 +1,14 @@
-// The worked examples of the tally bank.
+// What is proved of the definitions: the law of a raise, and the worked examples of the tally bank.
 
-ghost use mathlib.Core.Path.{_≡_};
+ghost use Rattle.bank.specs.Bank.{Raises-by-rule};
 ghost use Rattle.bank.specs.Examples.{Examples};
 
-/// How many worked examples are proved to hold.
-pub fn examples() -> u32
-    ensures answers { λ r. ⌜ r ≡ 4 ⌝ }
+/// A raise of any bank goes by the rule: there is nothing to run.
+pub fn raise_law()
+    ensures hold { λ _. ⌜ Raises-by-rule ⌝ }
+{}
+
+/// The worked examples hold: there is nothing to run.
+pub fn examples()
     ensures hold { λ _. ⌜ Examples ⌝ }
-{
-    4
-}
+{}

@@ -1,8 +1,8 @@
 use mathlib.Core.Path.{_≡_, _∙_, sym, ap, ap₂, subst}
 use mathlib.Core.List.{_++_}
-use Prim.Native.Nat.{_+_, _<_, _≤_}
+use Prim.Native.Nat.{_+_, _-_, _<_, _≤_}
 use native.Mathlib.Omega.{arith}
-use lib.ListN.{length, getD, take, drop, set}
+use lib.ListN.{length, take, drop, set}
 use Rattle.bank.specs.Tally.{bits-in, raised-by, Clears}
 use Rattle.bank.proofs.TallyLaws.{raised-more, raised-past-zero, raised-stops, raised-ends, raise-clears}
 use Rattle.bank.proofs.tally.raise_region.Needs as need
@@ -30,9 +30,8 @@ loop-i-again c =
     let region = c .loop-i .region in
     let i = c .loop-i .i in
     let within : i < length region = omega arith in
-    let fits : getD region i 0 < 256 = omega arith in
-    let more = raised-more (c .loop-i .left) region i within fits in
-    ap₂ (λ v m. take (i + 1) (set region i v) ++ raised-by m (drop (i + 1) (set region i v))) (c .clear-bits .ensures .answers) (c .saturating-sub-left .ensures)
+    let more = raised-more (c .loop-i .left) region i within in
+    ap₂ (λ v m. take (i + 1) (set region i v) ++ raised-by m (drop (i + 1) (set region i v))) (c .clear-bits .ensures .answers) (c .saturating-sub-left .ensures ∙ ap (λ n. c .loop-i .left - n) (c .held .ensures .answers))
     ∙ more ∙ c .loop-i .inv
 
 pub returns : need.returns

@@ -1,5 +1,5 @@
 use mathlib.Core.Path.{_≡_}
-use lib.ListN.{length, drop}
+use lib.ListN.{drop}
 use Rattle.bank.specs.Word.{words, none-above}
 use Rattle.bank.proofs.word.is_usable.Given as given
 

@@ -7,7 +7,6 @@ pub returns : need.returns
 unfolding bits-in zeros ones clear next-cleared cleared raised-by tally-area tallies
 returns c =
     record {
-      answers = refl;
       hold =
           record {
             ff-raised-to-3-is-1f = refl;

@@ -1,7 +1,5 @@
-use mathlib.Core.Path.{_≡_, _∙_, sym}
-use mathlib.Core.Bool.{true}
+use mathlib.Core.Path.{_∙_, sym}
 use native.Mathlib.Omega.{arith}
-use Rattle.bank.specs.Word.{word-area}
 use Rattle.bank.proofs.WordRaised.{word-area-length, telling-word}
 use Rattle.bank.proofs.word_bank.calls.told.Needs as need
 

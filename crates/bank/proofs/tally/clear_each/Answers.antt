@@ -1,16 +1,10 @@
 use mathlib.Core.Path.{_≡_, _∙_, sym, ap}
-use Prim.Native.Nat.{ℕ, _+_, _-_, _≤_, _<_}
+use Prim.Native.Nat.{_+_, _-_}
 use native.Mathlib.Nat.{sub-zero}
 use native.Mathlib.Omega.{arith}
-use Rattle.bank.specs.Tally.{bits, ones, cleared}
-use Rattle.bank.proofs.ByteLaws.{ones-of-byte, cleared-whole, cleared-step}
-use Rattle.bank.proofs.tally.clear_bits.Needs as need
-
-pub returns-then-byte-many : need.returns-then-byte-many
-returns-then-byte-many c =
-    let fits : c .args .byte < 256 = omega arith in
-    let all : ones (bits (c .args .byte)) ≤ c .args .many = omega (arith, ones-of-byte (c .args .byte) fits) in
-    record { answers = sym (cleared-whole (c .args .many) (c .args .byte) fits all) }
+use Rattle.bank.specs.Tally.{cleared}
+use Rattle.bank.proofs.ByteLaws.{cleared-step}
+use Rattle.bank.proofs.tally.clear_each.Needs as need
 
 pub loop-holds : need.loop-holds
 loop-holds c = ap (λ m. cleared m (c .args .byte)) (sub-zero (c .args .many))
