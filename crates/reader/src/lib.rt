@@ -1,6 +1,10 @@
 // A reader: he draws challenges, and checks an answer against each.
+mod compare;
 mod draw;
+mod evidence;
 mod fault;
+mod layout;
+mod rules;
 mod types;
 
 pub use fault::ReaderFault;
