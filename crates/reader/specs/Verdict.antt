@@ -71,7 +71,7 @@ ruled identity question text evidence =
     then numbers (position-of (question .asked)) evidence
     then digests (question .queue) text evidence
 
-unfoldable pub judged : List ℕ → List ℕ → Question → List ℕ → Evidence → Result Verdict ReaderFault
+abbrev pub judged : List ℕ → List ℕ → Question → List ℕ → Evidence → Result Verdict ReaderFault
 judged identity key question text evidence =
     tags key evidence
     then ruled identity question text evidence

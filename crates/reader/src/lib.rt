@@ -1,4 +1,5 @@
 // A reader: he draws challenges, and checks an answer against each.
+mod check;
 mod compare;
 mod draw;
 mod evidence;
