@@ -58,6 +58,7 @@ pub record Laid (asked : Asked) (kind : Kind) (number count size total : ℕ) : 
   pub number-is : number ≡ number-of-kind kind
   pub count-is : count ≡ statements-of kind
   pub answers : answers-to asked kind ≡ true
+  pub size-is : right-size kind size ≡ true
   pub total-is : total ≡ head-length kind + size
   pub short : size ≤ 200
 
@@ -85,4 +86,4 @@ laid asked kind number count size total h =
     let e : total ≡ answer-length (number-of-kind kind) (statements-of kind) size =
     t ∙ (ap (λ z. answer-length z count size) n ∙ ap (λ z. answer-length (number-of-kind kind) z size) k) in
     let w = whole kind size total e (b .1) in
-    record { number-is = n; count-is = k; answers = a .0; total-is = w .0; short = w .1 }
+    record { number-is = n; count-is = k; answers = a .0; size-is = b .1; total-is = w .0; short = w .1 }
