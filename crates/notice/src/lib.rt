@@ -1,9 +1,16 @@
-// What carries the text of a notice: records, the digest rule's input, and the limits of both.
+// What carries the text of a notice: records, answers, the digest rule's input, and their limits.
+mod answer;
 mod input;
 mod limits;
 mod record;
 mod writer;
 
+pub use answer::ANSWER_HEAD;
+pub use answer::ANSWER_LIMIT;
+pub use answer::Kind;
+pub use answer::KindDebug;
+pub use answer::KindPartialEq;
+pub use answer::answer_length;
 pub use input::write_input;
 pub use limits::INPUT_HEAD;
 pub use limits::INPUT_LIMIT;

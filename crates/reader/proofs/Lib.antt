@@ -1,0 +1,4 @@
+pub mod Layouts
+pub mod Sames
+pub mod Verdicts
+mod Written

@@ -1,0 +1,5 @@
+mod Parts
+mod Tests
+mod Accepted
+mod Rightly
+pub mod Law

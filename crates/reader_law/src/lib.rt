@@ -1,0 +1,28 @@
+// The check of an answer, with its promise in the words of the rules.
+use reader::Challenge;
+use reader::Reader;
+use reader::ReaderFault;
+use reader::Verdict;
+ghost use mathlib.Core.Path.{_≡_};
+ghost use lib.ListN.{length};
+ghost use Rattle.std.specs.declared.result.Result.the-variants.{Ok};
+ghost use Rattle.digest.specs.Wiped.{wiped};
+ghost use Rattle.reader.specs.declared.types.Verdict.{Verdict};
+ghost use Rattle.reader.specs.Verdict.{verdict};
+ghost use Rattle.reader_law.specs.Rows.{Right};
+
+/// Checks an answer as `Reader::check` does. It is accepted, and that is told of it, exactly where the answer is
+/// the layout of its fields and keeps every rule of its kind's row.
+pub fn check_by_the_rules(
+    reader: &Reader,
+    challenge: Challenge,
+    answer: &[u8],
+    working: &mut [u8],
+) -> Result<Verdict, ReaderFault>
+    ensures answers { λ r. ⌜ r ≡ verdict (now (reader .entry) .identity) (now (reader .entry) .key) (challenge .question) (length (now (working .entry))) (now (answer .entry)) ⌝ }
+    ensures accepts { λ r. ⌜ ((v : Verdict) → r ≡ Ok v → Right (now (reader .entry) .identity) (now (reader .entry) .key) (challenge .question) (length (now (working .entry))) (now (answer .entry)) v) ⌝ }
+    ensures only { λ r. ⌜ ((v : Verdict) → Right (now (reader .entry) .identity) (now (reader .entry) .key) (challenge .question) (length (now (working .entry))) (now (answer .entry)) v → r ≡ Ok v) ⌝ }
+    ensures working { λ _. ⌜ now (working .exit) ≡ wiped (now (working .entry)) ⌝ }
+{
+    reader.check(challenge, answer, working)
+}
