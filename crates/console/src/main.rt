@@ -5,6 +5,7 @@ mod block;
 mod dongles;
 mod hash;
 mod page;
+mod readers;
 mod run;
 mod stores;
 

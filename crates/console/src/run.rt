@@ -6,6 +6,7 @@ use crate::block::settle;
 use crate::dongles;
 use crate::hash;
 use crate::page::Page;
+use crate::readers;
 use crate::stores;
 use script::bad::Bad;
 use script::bad::Stop;
@@ -23,6 +24,7 @@ fn command(line: &[u8], lines: &mut Lines, page: &mut Page) -> Result<(), Stop>
         b"digest" => hash::digest_command(line, page),
         b"bank" => banks::bank_command(line, lines, page),
         b"dongle" => dongles::dongle_command(line, lines, page),
+        b"reader" => readers::reader_command(line, lines, page),
         b"store" => stores::store_command(line, lines, page),
         b"tag" => hash::tag_command(line, page),
         _ => Err(Stop::Line(Bad::Command)),
