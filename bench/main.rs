@@ -1,5 +1,7 @@
 //! The library's entry points beside plain Rust, interleaved in one run: medians of five, and their ratio.
+mod reader;
 mod sha256;
+mod stores;
 mod tally;
 
 use std::hint::black_box;
@@ -11,6 +13,21 @@ mod library {
         fn speed_digest(message: *const u8, length: usize, out: *mut u8, room: usize) -> u32;
         fn speed_tally_value(area: *mut u8, length: usize, counter: u8) -> u64;
         fn speed_tally_raise(area: *mut u8, length: usize, counter: u8, to: u32) -> u32;
+        fn speed_log(area: *mut u8, length: usize, records: *const u8, bytes: usize, size: usize) -> u32;
+        fn speed_slots(area: *mut u8, length: usize, records: *const u8, bytes: usize, size: usize) -> u32;
+        fn speed_check(position: u32, answer: *const u8, length: usize, working: *mut u8, room: usize) -> u32;
+    }
+
+    pub fn log(area: &mut [u8], records: &[u8], size: usize) -> u32 {
+        unsafe { speed_log(area.as_mut_ptr(), area.len(), records.as_ptr(), records.len(), size) }
+    }
+
+    pub fn slots(area: &mut [u8], records: &[u8], size: usize) -> u32 {
+        unsafe { speed_slots(area.as_mut_ptr(), area.len(), records.as_ptr(), records.len(), size) }
+    }
+
+    pub fn check(position: u32, answer: &[u8], working: &mut [u8]) -> u32 {
+        unsafe { speed_check(position, answer.as_ptr(), answer.len(), working.as_mut_ptr(), working.len()) }
     }
 
     pub fn tally_value(area: &mut [u8], counter: u8) -> u64 {
@@ -104,7 +121,75 @@ fn tallies() {
     }
 }
 
+/// Records of queue 0 that span one position each, end to end.
+fn records(count: u32, text: usize) -> (Vec<u8>, usize) {
+    let size = 114 + text;
+    let mut all = Vec::new();
+    for i in 0..count {
+        let mut record = vec![0x61u8; size];
+        record[8] = 1;
+        record[9..13].copy_from_slice(&i.to_be_bytes());
+        record[13..17].copy_from_slice(&(i + 1).to_be_bytes());
+        record[113] = text as u8;
+        all.extend(record);
+    }
+    (all, size)
+}
+
+/// A full store is filled, every position covered, half forgotten and then all. Opening zeroes the area in both.
+fn stores() {
+    let mut area = vec![0u8; 65536];
+    for text in [0, 100, 200] {
+        let (all, size) = records(65536 / (116 + text as u32), text);
+        let plain = |area: &mut [u8]| {
+            area.fill(0);
+            stores::work(&mut stores::Log { area, used: 0 }, &all, size)
+        };
+        assert_eq!(library::log(&mut area, &all, size), plain(&mut area));
+        let mut other = area.clone();
+        compare(
+            &format!("log store of 65,536 bytes, texts of {text} bytes"),
+            &mut || (0..20).for_each(|_| _ = black_box(library::log(black_box(&mut area), &all, size))),
+            &mut || (0..20).for_each(|_| _ = black_box(plain(black_box(&mut other)))),
+        );
+    }
+    let mut slots = vec![0u8; 64000];
+    let (all, size) = records(200, 200);
+    let plain = |area: &mut [u8]| {
+        area.fill(0);
+        stores::work(&mut stores::Slots { area, rows: [stores::FREE; 200], used: 0 }, &all, size)
+    };
+    assert_eq!(library::slots(&mut slots, &all, size), plain(&mut slots));
+    let mut other = slots.clone();
+    compare(
+        "slot store of 200 slots, texts of 200 bytes",
+        &mut || (0..200).for_each(|_| _ = black_box(library::slots(black_box(&mut slots), &all, size))),
+        &mut || (0..200).for_each(|_| _ = black_box(plain(black_box(&mut other)))),
+    );
+}
+
+/// Checks of found answers with texts of 200 bytes.
+fn readers() {
+    let (identity, key) = ([1u8; 8], [11u8; 32]);
+    let (old, new, previous, text) = (4u32.to_be_bytes(), 5u32.to_be_bytes(), [7u8; 32], [0x74u8; 200]);
+    let matter = sha256::sha256(&[&[0u8][..], &old, &new, &previous, &text].concat());
+    let statement = [&identity[..], &[1], &old, &new, &matter].concat();
+    let answer = [&[1u8, 1, 200][..], &statement, &reader::hmac(&key, &statement), &previous, &text].concat();
+    let mut working = [0xffu8; 64];
+    for position in [4, 5, 6] {
+        assert_eq!(library::check(position, &answer, &mut working), reader::check_found(&identity, &key, position, &answer));
+    }
+    assert_eq!(library::check(5, &answer, &mut working), 0);
+    compare(
+        "check of a found answer, text of 200 bytes",
+        &mut || (0..20_000).for_each(|_| _ = black_box(library::check(5, black_box(&answer), &mut working))),
+        &mut || (0..20_000).for_each(|_| _ = black_box(reader::check_found(&identity, &key, 5, black_box(&answer)))),
+    );
+}
+
 fn main() {
     digests();
     tallies();
+    stores();
+    readers();
 }
