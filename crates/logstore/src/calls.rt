@@ -76,6 +76,7 @@ pub impl<'a> Store for LogStore<'a> as LogStoreStore {
         ensures becomes { λ _. ⌜ log-held (now (self .exit)) ≡ after-put (log-fits (now (self .entry)) (length (now («record» .entry)))) (log-held (now (self .entry))) (now («record» .entry)) ⌝ }
         ensures keeps { λ r. ⌜ (isOk r ≡ false → (n : ℕ) → log-fits (now (self .exit)) n ≡ log-fits (now (self .entry)) n) ⌝ }
         ensures log { λ _. ⌜ Kept (now (self .entry)) (now (self .exit)) ⌝ }
+        ensures untouched { λ r. ⌜ (isOk r ≡ false → log-area (now (self .exit)) ≡ log-area (now (self .entry))) ⌝ }
     {
         add(&mut self.log, record)
     }

@@ -78,6 +78,7 @@ pub(crate) fn add(log: &mut Log, bytes: &[u8]) -> Result<(), StoreFault>
     ensures sound { λ _. ⌜ Sound (now (log .exit)) ⌝ }
     ensures keeps { λ _. ⌜ (now (log .exit) .room ≡ now (log .entry) .room) × (drop (now (log .entry) .room) (now (now (log .exit) .area)) ≡ drop (now (log .entry) .room) (now (now (log .entry) .area))) × (length (now (now (log .exit) .area)) ≡ length (now (now (log .entry) .area))) ⌝ }
     ensures refused { λ r. ⌜ (isOk r ≡ false → (n : ℕ) → fits-in (now (log .exit)) n ≡ fits-in (now (log .entry)) n) ⌝ }
+    ensures untouched { λ r. ⌜ (isOk r ≡ false → now (now (log .exit) .area) ≡ now (now (log .entry) .area)) ⌝ }
 {
     may_add(log, bytes)?;
     append(log, bytes);

@@ -44,7 +44,8 @@ pub fn counter(bytes: &[u8]) -> u8
 pub fn queue(bytes: &[u8]) -> u8
     ensures answers { λ r. ⌜ r ≡ queue-of (now (bytes .entry)) ⌝ }
 {
-    counter(bytes) / 2
+    let counter = counter(bytes);
+    counter / 2
 }
 
 pub fn old(bytes: &[u8]) -> u32

@@ -1,16 +1,15 @@
 -- The verdict where the areas are long enough.
-use mathlib.Core.Path.{_≡_, refl, sym, ap, _∙_}
+use mathlib.Core.Path.{_≡_, ap, _∙_}
 use mathlib.Core.List.{List}
 use Prim.Native.Nat.{ℕ, _-_, _≤_, _<_}
 use native.Mathlib.Omega.{arith}
 use lib.ListN.{length, take, drop, getD}
 use Rattle.std.specs.declared.result.Result.{Result}
-use Rattle.std.specs.declared.result.Result.the-variants.{Ok, Err}
+use Rattle.std.specs.declared.result.Result.the-variants.{Err}
 use Rattle.std.proofs.shelf.Lists.{take-rest}
 use Rattle.std.proofs.shelf.Ways.{tells}
 use Rattle.notice.specs.declared.answer.Kind.{Kind}
 use Rattle.reader.specs.declared.types.Question.{Question}
-use Rattle.reader.specs.declared.types.Verdict.{Verdict}
 use Rattle.reader.specs.declared.fault.ReaderFault.{ReaderFault}
 use Rattle.reader.specs.declared.fault.ReaderFault.the-variants.{WrongLength}
 use Rattle.reader.specs.Verdict.{laid-out, weighed, verdict}

@@ -60,11 +60,7 @@ fn check_tag(
     )
 }
 
-pub fn check_tags(
-    key: [u8; 32],
-    evidence: Evidence,
-    working: &mut [u8],
-) -> Result<(), ReaderFault>
+pub fn check_tags(key: [u8; 32], evidence: Evidence, working: &mut [u8]) -> Result<(), ReaderFault>
     requires room { ⌜ 64 ≤ length (now working) ⌝ }
     ensures answers { λ r. ⌜ r ≡ tags key evidence ⌝ }
     ensures working { λ _. ⌜ wiped (now (working .exit)) ≡ wiped (now (working .entry)) ⌝ }
@@ -111,11 +107,7 @@ fn check_origin(
     )
 }
 
-pub fn check_origins(
-    identity: [u8; 8],
-    queue: u8,
-    evidence: Evidence,
-) -> Result<(), ReaderFault>
+pub fn check_origins(identity: [u8; 8], queue: u8, evidence: Evidence) -> Result<(), ReaderFault>
     ensures answers { λ r. ⌜ r ≡ origins identity queue evidence ⌝ }
 {
     let counter = counter_for(queue, evidence);
@@ -205,7 +197,9 @@ pub fn check_numbers(position: u32, evidence: Evidence) -> Result<(), ReaderFaul
         }
         Evidence::NotYet { status } => check_number(stands_below(position, status.statement), 0),
         Evidence::End {
-            status, advance, ..
+            status,
+            advance,
+            ..
         } => check_end(status.statement, advance.statement),
         Evidence::EndOfEmpty { status } => check_number(stands_at_zero(status.statement), 0),
     }
@@ -239,7 +233,10 @@ fn check_digest(
     ensures answers { λ r. ⌜ r ≡ demanded (digest-right queue statement previous (now (text .entry))) (WrongDigest place) ⌝ }
 {
     let Statement {
-        old, new, matter, ..
+        old,
+        new,
+        matter,
+        ..
     } = statement;
     let right = matter_of(queue, old, new, previous, text);
     demand(same(&matter, &right), ReaderFault::WrongDigest(place))
@@ -254,7 +251,9 @@ pub fn check_digests(queue: u8, text: &[u8], evidence: Evidence) -> Result<(), R
             check_digest(queue, advance.statement, previous, text, 0)
         }
         Evidence::End {
-            advance, previous, ..
+            advance,
+            previous,
+            ..
         } => check_digest(queue, advance.statement, previous, text, 1),
         _ => Ok(()),
     }

@@ -1,32 +1,27 @@
 -- An accepted answer keeps every rule of its kind's row.
 use mathlib.Core.Path.{_≡_, refl, sym, ap, _∙_}
-use mathlib.Core.Bool.{Bool, true, false, cond, _&&_}
+use mathlib.Core.Bool.{false, cond}
 use mathlib.Core.List.{List, [], _∷_, _++_}
-use Prim.Native.Nat.{ℕ, _+_, _*_, _≤_, _<_}
+use Prim.Native.Nat.{ℕ, _+_, _*_, _≤_}
 use native.Mathlib.Omega.{arith}
 use lib.Dec.{eqb, ltb}
 use lib.ListN.{length, getD, take, drop}
-use Rattle.std.specs.declared.result.Result.{Result}
-use Rattle.std.specs.declared.result.Result.the-variants.{Ok, Err}
+use Rattle.std.specs.declared.result.Result.the-variants.{Ok}
 use Rattle.std.proofs.shelf.Lists.{length-drop, drop-all}
 use Rattle.std.proofs.shelf.Tests.{cond-false, eqb-true, ltb-true}
-use Rattle.digest.specs.Sha256.{sha256}
-use Rattle.statement.specs.declared.types.SignedStatement.{SignedStatement}
 use Rattle.statement.specs.Layout.{encoded, decoded}
 use Rattle.notice.specs.declared.answer.Kind.{Kind}
 use Rattle.notice.specs.declared.answer.Kind.the-variants.{Found, Skipped, Forgotten, NotYet, End, EndOfEmpty}
-use Rattle.notice.specs.Answer.{number-of-kind, has-text, answer-bytes, head-length}
-use Rattle.notice.specs.Input.{digest-input}
+use Rattle.notice.specs.Answer.{number-of-kind, has-text, answer-bytes}
 use Rattle.reader.specs.declared.types.Question.{Question}
 use Rattle.reader.specs.declared.types.Verdict.{Verdict}
-use Rattle.reader.specs.declared.fault.ReaderFault.{ReaderFault}
 use Rattle.reader.specs.declared.fault.ReaderFault.the-variants.{WrongTag, WrongOrigin, WrongNonce, WrongNumbers, WrongDigest}
 use Rattle.reader.specs.declared.evidence.Evidence.{Evidence}
 use Rattle.reader.specs.Evidence.{block-at, signed-at, evidence-in, text-in}
 use Rattle.reader.specs.Rules.{Said, demanded, _then_, tags, origins, nonces, numbers, digests, signed-right, origin-right, stands-above, found-at}
-use Rattle.reader.specs.Verdict.{answers-to, position-of, accepted, ruled, judged, learnt}
+use Rattle.reader.specs.Verdict.{position-of, accepted, ruled, judged, learnt}
 use Rattle.reader.proofs.Layouts.{Laid}
-use Rattle.reader_law.specs.Rows.{SignedBy, FoundRow, SkippedRow, ForgottenRow, NotYetRow, EndRow, EndOfEmptyRow, Row}
+use Rattle.reader_law.specs.Rows.{SignedBy, Row}
 use Rattle.reader_law.proofs.Parts.{Below, below-drop, headed, split-at, length-part, written-again, read-sized, answer-of-one, answer-of-two}
 use Rattle.reader_law.proofs.Tests.{Passed, passed, then-passed, same-from, signed-by, advance-at, advance-over, status-with}
 
@@ -41,7 +36,11 @@ all-passed identity key question text e v h =
     let d = then-passed (nonces (question .nonce) e) (numbers p e then digests (question .queue) text e) tt (c .1) in
     let f = then-passed (numbers p e) (digests (question .queue) text e) tt (d .1) in
     record {
-      tagged = a .0; origin = c .0; fresh = d .0; numbered = f .0; digested = f .1;
+      tagged = a .0;
+      origin = c .0;
+      fresh = d .0;
+      numbered = f .0;
+      digested = f .1;
       told = let t = b .1 in cc;
     }
 

@@ -3,3 +3,5 @@ mod Tests
 mod Accepted
 mod Rightly
 pub mod Law
+mod Settled
+pub mod Outcomes

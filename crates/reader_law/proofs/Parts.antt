@@ -1,5 +1,5 @@
 -- The bytes of an answer, taken apart and put together.
-use mathlib.Core.Path.{_≡_, refl, sym, ap, _∙_}
+use mathlib.Core.Path.{_≡_, sym, ap, _∙_}
 use mathlib.Core.Bool.{cond}
 use mathlib.Core.List.{List, [], _∷_, _++_, append-assoc}
 use Prim.Native.Nat.{ℕ, _+_, _≤_, _<_}
@@ -11,11 +11,11 @@ use Rattle.std.proofs.shelf.Tests.{cases-lt}
 use mathlib.Core.Logic.{⊎-elim}
 use Rattle.statement.specs.declared.types.Statement.{Statement}
 use Rattle.statement.specs.declared.types.SignedStatement.{SignedStatement}
-use Rattle.statement.specs.Layout.{encoded, decoded, Sized, SizedSigned}
-use Rattle.statement.proofs.Layouts.{length-encoded, decoded-encoded, encoded-decoded}
+use Rattle.statement.specs.Layout.{encoded, decoded, SizedSigned}
+use Rattle.statement.proofs.Layouts.{decoded-encoded, encoded-decoded}
 use Rattle.notice.specs.declared.answer.Kind.{Kind}
 use Rattle.notice.specs.Answer.{number-of-kind, has-text, answer-bytes}
-use Rattle.reader.specs.Evidence.{block-at, signed-at}
+use Rattle.reader.specs.Evidence.{signed-at}
 
 -- every byte is below 256
 abbrev pub Below : List ℕ → Type 0

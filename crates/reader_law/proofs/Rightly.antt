@@ -1,36 +1,32 @@
 -- An answer that keeps every rule of its kind's row is accepted.
 use mathlib.Core.Path.{_≡_, refl, sym, ap, _∙_}
-use mathlib.Core.Bool.{Bool, true, false, cond, _&&_}
+use mathlib.Core.Bool.{true, false, cond}
 use mathlib.Core.List.{List, [], _∷_, _++_}
-use Prim.Native.Nat.{ℕ, _+_, _-_, _*_, _≤_, _<_}
+use Prim.Native.Nat.{ℕ, _+_, _-_, _*_, _≤_}
 use native.Mathlib.Omega.{arith}
-use lib.Dec.{eqb, leb, ltb}
-use lib.ListN.{length, getD, take, drop}
+use lib.Dec.{eqb}
+use lib.ListN.{length, drop}
 use Rattle.std.specs.declared.option.Option.the-variants.{Some}
-use Rattle.std.specs.declared.result.Result.{Result}
-use Rattle.std.specs.declared.result.Result.the-variants.{Ok, Err}
-use Rattle.std.proofs.shelf.Lists.{append-nil, length-append}
+use Rattle.std.specs.declared.result.Result.the-variants.{Ok}
+use Rattle.std.proofs.shelf.Lists.{length-append}
 use Rattle.std.proofs.shelf.Tests.{cond-true, cond-false, and-from, eq-eqb, le-leb, lt-ltb}
-use Rattle.digest.specs.Sha256.{sha256}
 use Rattle.statement.specs.declared.types.SignedStatement.{SignedStatement}
-use Rattle.statement.specs.Layout.{encoded, decoded, SizedSigned}
+use Rattle.statement.specs.Layout.{encoded, SizedSigned}
 use Rattle.statement.proofs.Layouts.{length-encoded}
 use Rattle.notice.specs.declared.answer.Kind.{Kind}
 use Rattle.notice.specs.declared.answer.Kind.the-variants.{Found, Skipped, Forgotten, NotYet, End, EndOfEmpty}
 use Rattle.notice.specs.Answer.{number-of-kind, statements-of, has-text, kind-of, answer-bytes, answer-length, head-length}
-use Rattle.notice.specs.Input.{digest-input}
 use Rattle.reader.specs.declared.types.Asked.{Asked}
 use Rattle.reader.specs.declared.types.Question.{Question}
 use Rattle.reader.specs.declared.types.Verdict.{Verdict}
-use Rattle.reader.specs.declared.fault.ReaderFault.{ReaderFault}
 use Rattle.reader.specs.declared.fault.ReaderFault.the-variants.{WrongTag, WrongOrigin, WrongNonce, WrongNumbers, WrongDigest}
 use Rattle.reader.specs.declared.evidence.Evidence.{Evidence}
 use Rattle.reader.specs.declared.evidence.Evidence.the-variants as evidence
-use Rattle.reader.specs.Evidence.{block-at, signed-at, evidence-in, text-in}
-use Rattle.reader.specs.Rules.{Said, demanded, _then_, tags, origins, nonces, numbers, digests, signed-right, origin-right, stands-above, found-at}
-use Rattle.reader.specs.Verdict.{answers-to, right-size, right-form, formed, laid-out, position-of, accepted, ruled, judged, weighed, verdict, learnt}
+use Rattle.reader.specs.Evidence.{signed-at, evidence-in, text-in}
+use Rattle.reader.specs.Rules.{Said, demanded, _then_, tags, origins, nonces, numbers, signed-right, origin-right, stands-above, found-at}
+use Rattle.reader.specs.Verdict.{answers-to, right-size, right-form, formed, laid-out, position-of, ruled, judged, verdict, learnt}
 use Rattle.reader.proofs.Verdicts.{verdict-by-kind}
-use Rattle.reader_law.specs.Rows.{SignedBy, FoundRow, SkippedRow, ForgottenRow, NotYetRow, EndRow, EndOfEmptyRow, Row}
+use Rattle.reader_law.specs.Rows.{SignedBy, Row}
 use Rattle.reader_law.proofs.Parts.{next, part-at, read-again, answer-of-one, answer-of-two}
 use Rattle.reader_law.proofs.Tests.{Passed, holds, then-next, from-same, tag-passes, origin-passes}
 

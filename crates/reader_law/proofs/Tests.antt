@@ -1,19 +1,16 @@
 -- What the tests of a verdict tell, and what makes them pass.
-use mathlib.Core.Path.{_≡_, refl, sym, ap, _∙_}
-use mathlib.Core.Bool.{Bool, true, false, cond, _&&_}
+use mathlib.Core.Path.{_≡_, refl, ap}
+use mathlib.Core.Bool.{Bool, true, false, _&&_}
 use mathlib.Core.List.{List}
-use Prim.Native.Nat.{ℕ, _≤_, _<_}
+use Prim.Native.Nat.{ℕ, _<_}
 use native.Mathlib.Omega.{arith}
 use lib.Dec.{eqb, ltb}
 use Rattle.std.specs.declared.result.Result.{Result}
 use Rattle.std.specs.declared.result.Result.the-variants.{Ok, Err}
-use Rattle.std.proofs.shelf.Tests.{cond-true, and-from, and-parts, eq-eqb, eqb-true, lt-ltb, ltb-true}
-use Rattle.digest.specs.Sha256.{sha256}
+use Rattle.std.proofs.shelf.Tests.{cond-true, and-from, and-parts, eq-eqb, eqb-true, ltb-true}
 use Rattle.digest.specs.Hmac.{hmac}
-use Rattle.statement.specs.declared.types.Statement.{Statement}
 use Rattle.statement.specs.declared.types.SignedStatement.{SignedStatement}
 use Rattle.statement.specs.Layout.{encoded, SizedSigned}
-use Rattle.notice.specs.Input.{digest-input}
 use Rattle.reader.specs.declared.types.Question.{Question}
 use Rattle.reader.specs.declared.types.Verdict.{Verdict}
 use Rattle.reader.specs.declared.evidence.Evidence.{Evidence}

@@ -11,7 +11,7 @@ use Rattle.statement.specs.declared.types.SignedStatement.{SignedStatement}
 use Rattle.statement.specs.Layout.{encoded, SizedSigned}
 use Rattle.notice.specs.declared.answer.Kind.{Kind}
 use Rattle.notice.specs.declared.answer.Kind.the-variants.{Found, Skipped, Forgotten, NotYet, End, EndOfEmpty}
-use Rattle.notice.specs.Answer.{answer-bytes, head-length}
+use Rattle.notice.specs.Answer.{answer-bytes}
 use Rattle.notice.specs.Input.{digest-input}
 use Rattle.reader.specs.declared.types.Question.{Question}
 use Rattle.reader.specs.declared.types.Verdict.{Verdict}

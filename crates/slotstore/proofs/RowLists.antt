@@ -45,15 +45,15 @@ any-row-all p rows used i h le = ap (any-row p) (drop-all i (take used rows) (om
 -- the tests of a row are those of its record
 
 pub row-covers-of : (q p : ℕ) (r : Bytes) → row-covers q p (row-of r) ≡ covers q p r
-unfolding row-covers covers
+unfolding covers
 row-covers-of q p r = refl
 
 row-meets-of : (q o n : ℕ) (r : Bytes) → row-meets q o n (row-of r) ≡ meets q o n r
-unfolding row-meets meets
+unfolding meets
 row-meets-of q o n r = refl
 
 pub row-stays-of : (q n : ℕ) (r : Bytes) → row-stays q n (row-of r) ≡ stays q n r
-unfolding row-stays stays
+unfolding stays
 row-stays-of q n r = refl
 
 pub any-row-of : (q o n : ℕ) (rs : List Bytes) → any-row (row-meets q o n) (map row-of rs) ≡ any-meets q o n rs

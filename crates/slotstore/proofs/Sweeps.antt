@@ -62,6 +62,25 @@ pub drops-counted :
 drops-counted p rs ss i u n l h t e m =
     sym (swept-drops p rs ss i n (omega arith) t e (omega arith)) ∙ ap (λ k. take i rs ++ swept (k - i) p (drop i rs)) l
 
+-- one step of a sweep, whichever way it goes
+pub swept-step :
+    (p : Bytes → Bool) (rs ss : List Bytes) (i j u v : ℕ) (b : Bool) → length rs ≡ u → i < u → p (getD rs i []) ≡ b →
+    j ≡ cond b (i + 1) i → ss ≡ cond b rs (take i rs ++ rolled (drop (i + 1) rs)) → v + cond b 0 1 ≡ u →
+    (take j ss ++ swept (v - j) p (drop j ss) ≡ take i rs ++ swept (u - i) p (drop i rs)) × (j ≤ v) × (v - j < u - i)
+swept-step p rs ss i j u v true l h t ej es ev =
+    let e : v ≡ u = omega arith in (
+      ap (λ k. take k ss ++ swept (v - k) p (drop k ss)) ej
+          ∙ (ap (λ z. take (i + 1) z ++ swept (v - (i + 1)) p (drop (i + 1) z)) es
+          ∙ (ap (λ k. take (i + 1) rs ++ swept (k - (i + 1)) p (drop (i + 1) rs)) e ∙ keeps-counted p rs i u l h t)),
+      omega arith,
+      omega arith,
+    )
+swept-step p rs ss i j u v false l h t ej es ev = (
+  ap (λ k. take k ss ++ swept (v - k) p (drop k ss)) ej ∙ drops-counted p rs ss i u v l h t es ev,
+  omega arith,
+  omega arith,
+)
+
 -- no slot is left to be tried
 pub swept-all : (p : Bytes → Bool) (rs : List Bytes) (i u : ℕ) → length rs ≡ u → i ≤ u → u ≤ i → take i rs ++ swept (u - i) p (drop i rs) ≡ rs
 swept-all p rs i u l h g =

@@ -19,14 +19,14 @@ abbrev pub row-of : Bytes → Row
 row-of r = record { queue = queue-of r; old = old-of r; new = new-of r; length = length r }
 
 -- the row's record is of the queue and spans the position
-unfoldable pub row-covers : ℕ → ℕ → Row → Bool
+abbrev pub row-covers : ℕ → ℕ → Row → Bool
 row-covers q p row = eqb (row .queue) q && (ltb (row .old) p && leb p (row .new))
 
 -- lanes are equal and the greater of the lower ends is below the lesser of the upper ends
-unfoldable pub row-meets : ℕ → ℕ → ℕ → Row → Bool
+abbrev pub row-meets : ℕ → ℕ → ℕ → Row → Bool
 row-meets q old new row = eqb (row .queue) q && ltb (max old (row .old)) (min new (row .new))
 
-unfoldable pub row-stays : ℕ → ℕ → Row → Bool
+abbrev pub row-stays : ℕ → ℕ → Row → Bool
 row-stays q n row = not (eqb (row .queue) q && ltb (row .new) n)
 
 -- the numbers of rows, one after another

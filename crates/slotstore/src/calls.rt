@@ -97,6 +97,7 @@ pub impl<'a> Store for SlotStore<'a> as SlotStoreStore {
         ensures becomes { λ _. ⌜ slot-held (now (self .exit)) ≡ after-put (slot-fits (now (self .entry)) (length (now («record» .entry)))) (slot-held (now (self .entry))) (now («record» .entry)) ⌝ }
         ensures keeps { λ r. ⌜ (isOk r ≡ false → (n : ℕ) → slot-fits (now (self .exit)) n ≡ slot-fits (now (self .entry)) n) ⌝ }
         ensures slots { λ _. ⌜ Kept (now (self .entry)) (now (self .exit)) ⌝ }
+        ensures untouched { λ r. ⌜ (isOk r ≡ false → (slot-area (now (self .exit)) ≡ slot-area (now (self .entry))) × (slot-rows (now (self .exit)) ≡ slot-rows (now (self .entry)))) ⌝ }
     {
         add(&mut self.inner, record)
     }

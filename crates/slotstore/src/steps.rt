@@ -1,16 +1,18 @@
 // What the calls of the slot store do to its slots.
 ghost use mathlib.Core.Path.{_≡_};
-ghost use mathlib.Core.Bool.{true, false};
+ghost use mathlib.Core.Bool.{true, false, cond};
 ghost use mathlib.Core.List.{_++_, _∷_, []};
 ghost use Prim.Native.Nat.{ℕ, _+_, _*_, _≤_, _<_};
 ghost use lib.Dec.{ltb};
-ghost use lib.ListN.{length, take, drop};
+ghost use lib.ListN.{length, getD, set, take, drop, replicate};
 ghost use Rattle.std.specs.Results.{isOk};
 ghost use Rattle.notice.specs.Record.{is-record};
 ghost use Rattle.store.specs.Meaning.{putting, after-put, spanned, stays, covering, covered};
+ghost use Rattle.slotstore.specs.Rows.{free-row, row-stays};
 ghost use Rattle.slotstore.specs.Slots.{rolled, swept};
 ghost use Rattle.slotstore.specs.SlotStores.{Sound, Same, records-in};
 use super::row::FREE;
+use super::row::Row;
 use super::search::find;
 use super::search::is_kept;
 use super::search::is_spanned;
@@ -81,6 +83,25 @@ fn copy_slot(area: &mut [u8], from: usize, to: usize)
     put(area, SLOT * to, &bytes);
 }
 
+// Zeroes a slot.
+fn free_slot(area: &mut [u8], index: usize)
+    requires part { ⌜ 320 * index + 320 ≤ length (now area) ⌝ }
+    ensures front { λ _. ⌜ take (320 * index + 320) (now (area .exit)) ≡ take (320 * index) (now (area .entry)) ++ replicate 320 0 ⌝ }
+    ensures back { λ _. ⌜ drop (320 * index + 320) (now (area .exit)) ≡ drop (320 * index + 320) (now (area .entry)) ⌝ }
+{
+    clear(area, SLOT * index, SLOT);
+}
+
+// Moves a row to another place, and frees its own.
+fn move_row(rows: &mut [Row], from: usize, to: usize)
+    requires places { ⌜ (from < length (now rows)) × (to < length (now rows)) ⌝ }
+    ensures rows { λ _. ⌜ now (rows .exit) ≡ set (set (now (rows .entry)) to (getD (now (rows .entry)) from free-row)) from free-row ⌝ }
+{
+    let row = rows[from];
+    rows[to] = row;
+    rows[from] = FREE;
+}
+
 // Gives a slot the contents of the last one in use, and frees that.
 fn vacate(slots: &mut Slots, index: usize)
     requires sound { ⌜ Sound (now slots) ⌝ }
@@ -92,10 +113,8 @@ fn vacate(slots: &mut Slots, index: usize)
 {
     let last = slots.used - 1;
     copy_slot(slots.area, last, index);
-    clear(slots.area, SLOT * last, SLOT);
-    let row = slots.rows[last];
-    slots.rows[index] = row;
-    slots.rows[last] = FREE;
+    free_slot(slots.area, last);
+    move_row(slots.rows, last, index);
     slots.used = last;
 }
 
@@ -107,6 +126,7 @@ pub(crate) fn add(slots: &mut Slots, bytes: &[u8]) -> Result<(), StoreFault>
     ensures sound { λ _. ⌜ Sound (now (slots .exit)) ⌝ }
     ensures keeps { λ _. ⌜ Same (now (slots .entry)) (now (slots .exit)) ⌝ }
     ensures refused { λ r. ⌜ (isOk r ≡ false → now (slots .exit) .used ≡ now (slots .entry) .used) ⌝ }
+    ensures untouched { λ r. ⌜ (isOk r ≡ false → (now (now (slots .exit) .area) ≡ now (now (slots .entry) .area)) × (now (now (slots .exit) .rows) ≡ now (now (slots .entry) .rows))) ⌝ }
 {
     may_add(slots, bytes)?;
     append(slots, bytes);
@@ -138,6 +158,23 @@ pub(crate) fn show(
     }
 }
 
+// Keeps the record of a slot, or has the slot take the contents of the last one. Tells the slot to try next.
+fn sweep(slots: &mut Slots, index: usize, queue: u8, below: u32) -> usize
+    requires sound { ⌜ Sound (now slots) ⌝ }
+    requires used { ⌜ index < now slots .used ⌝ }
+    ensures answers { λ r. ⌜ r ≡ cond (row-stays queue below (getD (now (now (slots .entry) .rows)) index free-row)) (index + 1) index ⌝ }
+    ensures becomes { λ _. ⌜ records-in (now (slots .exit)) ≡ cond (row-stays queue below (getD (now (now (slots .entry) .rows)) index free-row)) (records-in (now (slots .entry))) (take index (records-in (now (slots .entry))) ++ rolled (drop (index + 1) (records-in (now (slots .entry))))) ⌝ }
+    ensures fewer { λ _. ⌜ now (slots .exit) .used + cond (row-stays queue below (getD (now (now (slots .entry) .rows)) index free-row)) 0 1 ≡ now (slots .entry) .used ⌝ }
+    ensures sound { λ _. ⌜ Sound (now (slots .exit)) ⌝ }
+    ensures keeps { λ _. ⌜ Same (now (slots .entry)) (now (slots .exit)) ⌝ }
+{
+    if is_kept(slots.rows[index], queue, below) {
+        return index + 1;
+    }
+    vacate(slots, index);
+    index
+}
+
 // Removes the records of the queue whose new is below a number, going up from the first slot.
 pub(crate) fn remove(slots: &mut Slots, queue: u8, below: u32)
     requires sound { ⌜ Sound (now slots) ⌝ }
@@ -147,10 +184,6 @@ pub(crate) fn remove(slots: &mut Slots, queue: u8, below: u32)
 {
     let mut index = 0;
     while index < slots.used {
-        if is_kept(slots.rows[index], queue, below) {
-            index += 1;
-        } else {
-            vacate(slots, index);
-        }
+        index = sweep(slots, index, queue, below);
     }
 }

@@ -22,7 +22,8 @@ pub fn clear(area: &mut [u8], at: usize, size: usize)
     ensures back { λ _. ⌜ ((k : ℕ) → at + size ≤ k → drop k (now (area .exit)) ≡ drop k (now (area .entry))) ⌝ }
     ensures short { λ _. ⌜ (length (now (area .entry)) < at + size → now (area .exit) ≡ now (area .entry)) ⌝ }
 {
-    if at <= area.len() && size <= area.len() - at {
+    let room = area.len();
+    if at <= room && size <= room - at {
         area[at..at + size].fill(0);
     }
 }

@@ -5,4 +5,4 @@ use Rattle.notice.proofs.record.queue.Needs as need
 
 pub returns : need.returns
 unfolding queue-of
-returns c = record { answers = ap (λ z. z / 2) (c .counter .ensures .answers) }
+returns c = record { answers = ap (λ z. z / 2) (c .counter-counter .ensures .answers) }

@@ -1,6 +1,6 @@
 use mathlib.Core.Path.{_≡_, refl, sym, ap, _∙_}
-use mathlib.Core.List.{[]}
-use Prim.Native.Nat.{ℕ, _+_, _-_, _<_}
+use mathlib.Core.List.{[], _++_}
+use Prim.Native.Nat.{ℕ, _+_, _-_, _≤_, _<_}
 use lib.ListN.{length, getD, take, drop}
 use native.Mathlib.Omega.{arith}
 use Rattle.store.specs.Meaning.{stays}
@@ -12,7 +12,7 @@ use Rattle.slotstore.proofs.Images.{length-in-slots}
 use Rattle.slotstore.proofs.RowLists.{row-stays-of}
 use Rattle.slotstore.proofs.Changes.{sound-row}
 use Rattle.slotstore.proofs.Sames.{same-trans}
-use Rattle.slotstore.proofs.Sweeps.{keeps-counted, drops-counted, swept-all}
+use Rattle.slotstore.proofs.Sweeps.{swept-step, swept-all}
 use Rattle.slotstore.proofs.steps.remove.Needs as need
 
 -- the test of a row in use is that of its record
@@ -30,29 +30,30 @@ loop-index-holds c =
     let z : l .used - 0 ≡ l .used = omega arith in
     (c .pre .sound, (refl, refl, refl, refl, refl), ap (λ n. swept n (stays (c .args .queue) (c .args .below)) (records-in l)) z, omega arith)
 
-pub loop-index-again-then-is-kept : need.loop-index-again-then-is-kept
-loop-index-again-then-is-kept c =
-    let inv = c .loop-index .inv in
+step :
+    (c : need.After-sweep-index) →
+    (take (c .sweep-index .result) (records-in (c .sweep-index .last .slots))
+    ++ swept (c .sweep-index .last .slots .used - c .sweep-index .result) (stays (c .args .queue) (c .args .below)) (drop (c .sweep-index .result) (records-in (c .sweep-index .last .slots)))
+    ≡ take (c .loop-index .index) (records-in (c .loop-index .slots))
+    ++ swept (c .loop-index .slots .used - c .loop-index .index) (stays (c .args .queue) (c .args .below)) (drop (c .loop-index .index) (records-in (c .loop-index .slots))))
+    × (c .sweep-index .result ≤ c .sweep-index .last .slots .used)
+    × (c .sweep-index .last .slots .used - c .sweep-index .result < c .loop-index .slots .used - c .loop-index .index)
+step c =
     let l = c .loop-index .slots in
     let i = c .loop-index .index in
-    let p = stays (c .args .queue) (c .args .below) in
-    let t = sym (tested l (c .args .queue) (c .args .below) i (inv .0) (omega arith)) ∙ sym (c .if-is-kept .ensures tt .answers) in
-    (inv .0, inv .1, keeps-counted p (records-in l) i (l .used) (counted l) (omega arith) t ∙ inv .2, omega arith)
+    let v = c .sweep-index .ensures in
+    swept-step (stays (c .args .queue) (c .args .below)) (records-in l) (records-in (c .sweep-index .last .slots)) i (c .sweep-index .result) (l .used) (c .sweep-index .last .slots .used) _
+    (counted l) (omega arith) (sym (tested l (c .args .queue) (c .args .below) i (c .loop-index .inv .0) (omega arith))) (v .answers) (v .becomes) (v .fewer)
 
 pub loop-index-again : need.loop-index-again
 loop-index-again c =
     let inv = c .loop-index .inv in
-    let l = c .loop-index .slots in
-    let m = c .vacate .last .slots in
-    let v = c .vacate .ensures in
-    let i = c .loop-index .index in
-    let p = stays (c .args .queue) (c .args .below) in
-    let t = sym (tested l (c .args .queue) (c .args .below) i (inv .0) (omega arith)) ∙ sym (c .if-is-kept .ensures tt .answers) in (
-      v .sound,
-      same-trans (c .args .slots .now) l m (inv .1) (v .keeps),
-      drops-counted p (records-in l) (records-in m) i (l .used) (m .used) (counted l) (omega arith) t (v .becomes) (v .fewer) ∙ inv .2,
-      omega arith,
-    )
+    let v = c .sweep-index .ensures in
+    let s = step c in
+    (v .sound, same-trans (c .args .slots .now) (c .loop-index .slots) (c .sweep-index .last .slots) (inv .1) (v .keeps), s .0 ∙ inv .2, s .1)
+
+pub loop-index-less : need.loop-index-less
+loop-index-less c = step c .2
 
 pub returns : need.returns
 returns c =

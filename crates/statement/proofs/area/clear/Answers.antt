@@ -7,8 +7,8 @@ use Rattle.std.proofs.shelf.Lists.{length-drop, length-replicate, length-take-l
 use Rattle.std.proofs.shelf.Parts.{take-putMid, drop-putMid}
 use Rattle.statement.proofs.area.clear.Needs as need
 
-pub returns-then-size-area : need.returns-then-size-area
-returns-then-size-area c =
+pub returns-then-size-room : need.returns-then-size-room
+returns-then-size-room c =
     let a = c .args .area .now in
     let at = c .args .at in
     let n = c .args .size in

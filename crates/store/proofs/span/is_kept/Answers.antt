@@ -1,12 +1,19 @@
-use native.Mathlib.Omega.{arith}
-use Rattle.std.proofs.shelf.Ways.{tells}
+use mathlib.Core.Path.{ap, _∙_}
+use mathlib.Core.Bool.{not, _&&_}
+use lib.Dec.{eqb, ltb}
+use Rattle.notice.specs.Record.{queue-of}
 use Rattle.store.specs.Meaning.{stays}
 use Rattle.store.proofs.span.is_kept.Needs as need
 
-pub returns-then-queue : need.returns-then-queue
+pub returns : need.returns
 unfolding stays
-returns-then-queue c = record { answers = grind (arith, tells) }
-
-pub returns-else-queue : need.returns-else-queue
-unfolding stays
-returns-else-queue c = record { answers = grind (arith, tells) }
+returns c =
+    let r = c .args .bytes .now in
+    let q = c .args .queue in
+    let n = c .args .below in
+    record {
+      answers =
+          c .outlive .ensures .answers
+          ∙ (ap (λ z. not (eqb z q && ltb (c .new .result) n)) (c .queue .ensures .answers)
+          ∙ ap (λ z. not (eqb (queue-of r) q && ltb z n)) (c .new .ensures .answers));
+    }
