@@ -42,7 +42,11 @@ pub fn say_signed(page: &mut Page, signed: SignedStatement) -> Result<(), Stop> 
 }
 
 // What attest or status answered, and the working area after it.
-fn say_answer(page: &mut Page, answer: Result<SignedStatement, DongleFault>, working: &[u8]) -> Result<(), Stop> {
+fn say_answer(
+    page: &mut Page,
+    answer: Result<SignedStatement, DongleFault>,
+    working: &[u8],
+) -> Result<(), Stop> {
     match answer {
         Ok(signed) => say_signed(page, signed)?,
         Err(fault) => dongle_refused(page, fault)?,
@@ -90,7 +94,12 @@ fn status_line<D: Dongle>(dongle: &D, line: &[u8], page: &mut Page) -> Result<()
     say_answer(page, answer, working.as_slice())
 }
 
-fn dongle_line<D: Dongle>(dongle: &mut D, name: &[u8], line: &[u8], page: &mut Page) -> Result<(), Stop> {
+fn dongle_line<D: Dongle>(
+    dongle: &mut D,
+    name: &[u8],
+    line: &[u8],
+    page: &mut Page,
+) -> Result<(), Stop> {
     match name {
         b"value" => value_line(dongle, line, page),
         b"attest" => attest_line(dongle, line, page),
@@ -99,7 +108,11 @@ fn dongle_line<D: Dongle>(dongle: &mut D, name: &[u8], line: &[u8], page: &mut P
     }
 }
 
-fn recent_line<D: Dongle>(dongle: &SecondDongle<D>, line: &[u8], page: &mut Page) -> Result<(), Stop> {
+fn recent_line<D: Dongle>(
+    dongle: &SecondDongle<D>,
+    line: &[u8],
+    page: &mut Page,
+) -> Result<(), Stop> {
     let rest = arguments(line, 1)?;
     let (word, _) = split_word(rest);
     let k = number(word, 70000)?;
@@ -141,13 +154,20 @@ pub fn say_opened<D: Dongle>(dongle: &D, page: &mut Page) -> Result<(), Stop> {
     Ok(())
 }
 
-fn run_over<B: Bank + Drop>(bank: B, plan: &Plan, lines: &mut Lines, page: &mut Page) -> Result<(), Stop>
+fn run_over<B: Bank + Drop>(
+    bank: B,
+    plan: &Plan,
+    lines: &mut Lines,
+    page: &mut Page,
+) -> Result<(), Stop>
     ensures reads { λ _. ⌜ left (now (lines .exit)) ≤ left (now (lines .entry)) ⌝ }
 {
     let dongle = FirstDongle::new(bank, plan.identity, plan.key);
     say_opened(&dongle, page)?;
     if plan.second {
-        let mut block = SecondBlock { dongle: SecondDongle::new(dongle) };
+        let mut block = SecondBlock {
+            dongle: SecondDongle::new(dongle),
+        };
         return run_block(&mut block, lines, page);
     }
     let mut block = FirstBlock { dongle };
@@ -187,7 +207,12 @@ pub fn dongle_command(line: &[u8], lines: &mut Lines, page: &mut Page) -> Result
     let identity = array(identity_word, heap)?;
     let (key_word, _) = split_word(rest);
     let key = array(key_word, heap)?;
-    let plan = Plan { second, tally, identity, key };
+    let plan = Plan {
+        second,
+        tally,
+        identity,
+        key,
+    };
     run_plan(area.as_mut_slice(), &plan, lines, page)?;
     page.say_bytes("area ", area.as_slice())?;
     Ok(())

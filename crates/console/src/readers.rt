@@ -84,7 +84,11 @@ fn check_line(reader: Reader, line: &[u8], page: &mut Page) -> Result<(), Stop> 
 }
 
 // What a check answered, and the working area after it.
-fn say_verdict(page: &mut Page, verdict: Result<Verdict, ReaderFault>, working: &[u8]) -> Result<(), Stop> {
+fn say_verdict(
+    page: &mut Page,
+    verdict: Result<Verdict, ReaderFault>,
+    working: &[u8],
+) -> Result<(), Stop> {
     match verdict {
         Ok(accepted) => say_accepted(page, accepted)?,
         Err(fault) => reader_refused(page, fault)?,
@@ -135,7 +139,9 @@ pub fn reader_command(line: &[u8], lines: &mut Lines, page: &mut Page) -> Result
     let identity: [u8; 8] = array(identity_word, heap)?;
     let (key_word, _) = split_word(rest);
     let key: [u8; 32] = array(key_word, heap)?;
-    let mut block = ReaderBlock { reader: Reader::new(identity, key) };
+    let mut block = ReaderBlock {
+        reader: Reader::new(identity, key),
+    };
     run_block(&mut block, lines, page)?;
     page.say("closed")?;
     Ok(())

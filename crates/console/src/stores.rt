@@ -45,7 +45,11 @@ fn takes_line<S: Store>(store: &S, line: &[u8], page: &mut Page) -> Result<(), S
     let rest = arguments(line, 1)?;
     let (word, _) = split_word(rest);
     let size = number(word, 70000)?;
-    page.say(if store.takes(size as usize) { "yes" } else { "no" })?;
+    page.say(if store.takes(size as usize) {
+        "yes"
+    } else {
+        "no"
+    })?;
     Ok(())
 }
 
@@ -101,7 +105,12 @@ impl<S: Store> Block for StoreBlock<S> as StoreBlockBlock {
     }
 }
 
-fn run_store<S: Store + Drop>(store: S, wrong: Option<StoreFault>, lines: &mut Lines, page: &mut Page) -> Result<(), Stop>
+fn run_store<S: Store + Drop>(
+    store: S,
+    wrong: Option<StoreFault>,
+    lines: &mut Lines,
+    page: &mut Page,
+) -> Result<(), Stop>
     ensures reads { λ _. ⌜ left (now (lines .exit)) ≤ left (now (lines .entry)) ⌝ }
 {
     match wrong {
@@ -120,7 +129,12 @@ fn run_log(area: &mut [u8], lines: &mut Lines, page: &mut Page) -> Result<(), St
     run_store(store, wrong, lines, page)
 }
 
-fn run_slots(area: &mut [u8], rows: &mut [Row], lines: &mut Lines, page: &mut Page) -> Result<(), Stop>
+fn run_slots(
+    area: &mut [u8],
+    rows: &mut [Row],
+    lines: &mut Lines,
+    page: &mut Page,
+) -> Result<(), Stop>
     ensures reads { λ _. ⌜ left (now (lines .exit)) ≤ left (now (lines .entry)) ⌝ }
 {
     let store = SlotStore::open(area, rows);
@@ -132,7 +146,12 @@ fn run_slots(area: &mut [u8], rows: &mut [Row], lines: &mut Lines, page: &mut Pa
 pub fn blank_rows(count: u32, heap: Global) -> Result<Vec<Row>, Stop> {
     let mut rows = Vec::new(heap);
     for _ in 0..count {
-        rows.push(Row { queue: 0, old: 0, new: 0, length: 0 })?;
+        rows.push(Row {
+            queue: 0,
+            old: 0,
+            new: 0,
+            length: 0,
+        })?;
     }
     Ok(rows)
 }

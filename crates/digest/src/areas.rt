@@ -6,7 +6,7 @@ ghost use lib.ListN.{length, drop, replicate};
 ghost use Rattle.digest.specs.Areas.{placed};
 ghost use Rattle.digest.specs.Hmac.{masked};
 
-pub fn put(area: &mut [u8], at: usize, bytes: &[u8])
+pub(crate) fn put(area: &mut [u8], at: usize, bytes: &[u8])
     requires { ⌜ at + length (now bytes) ≤ length (now area) ⌝ }
     ensures area { λ _. ⌜ now (area .exit) ≡ placed at (now (bytes .entry)) (now (area .entry)) ⌝ }
 {
@@ -14,7 +14,7 @@ pub fn put(area: &mut [u8], at: usize, bytes: &[u8])
     area[at..end].copy_from_slice(bytes);
 }
 
-pub fn clear(area: &mut [u8])
+pub(crate) fn clear(area: &mut [u8])
     ensures area { λ _. ⌜ now (area .exit) ≡ replicate (length (now (area .entry))) 0 ⌝ }
 {
     for byte in area.iter_mut() {
@@ -23,14 +23,14 @@ pub fn clear(area: &mut [u8])
 }
 
 // The first 64 bytes alone.
-pub fn clear_front(area: &mut [u8])
+pub(crate) fn clear_front(area: &mut [u8])
     requires { ⌜ 64 ≤ length (now area) ⌝ }
     ensures area { λ _. ⌜ now (area .exit) ≡ replicate 64 0 ++ drop 64 (now (area .entry)) ⌝ }
 {
     clear(&mut area[0..64]);
 }
 
-pub fn mask(area: &mut [u8], mask: u8)
+pub(crate) fn mask(area: &mut [u8], mask: u8)
     ensures area { λ _. ⌜ now (area .exit) ≡ masked mask (now (area .entry)) ⌝ }
 {
     for byte in area.iter_mut() {

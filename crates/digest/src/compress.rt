@@ -239,7 +239,7 @@ fn block_words(block: &[u8]) -> [u32; 16]
 }
 
 // The hash value after one more block.
-pub fn compress(value: [u32; 8], block: &[u8]) -> [u32; 8]
+pub(crate) fn compress(value: [u32; 8], block: &[u8]) -> [u32; 8]
     requires { ⌜ length (now block) ≡ 64 ⌝ }
     ensures answers { λ r. ⌜ r ≡ compressed value (words (now (block .entry))) ⌝ }
 {

@@ -87,7 +87,7 @@ fn absorb_last(value: [u32; 8], area: &mut [u8], rest: &[u8], total: usize) -> [
 }
 
 // The digest of a message of which `before` bytes, whole blocks, are already in the value.
-pub fn finish(value: [u32; 8], before: usize, message: &[u8]) -> [u8; 32]
+pub(crate) fn finish(value: [u32; 8], before: usize, message: &[u8]) -> [u8; 32]
     requires blocks { ⌜ before % 64 ≡ 0 ⌝ }
     requires fits { ⌜ before + length (now message) < 2 ^ 32 ⌝ }
     ensures answers { λ r. ⌜ r ≡ joined bytes4 (folded compressed value (parsed (now (message .entry) ++ padding (before + length (now (message .entry)))))) ⌝ }
@@ -103,7 +103,7 @@ pub fn finish(value: [u32; 8], before: usize, message: &[u8]) -> [u8; 32]
 }
 
 // SHA-256 of a message within no limit of the calls: theirs is tried before.
-pub fn hash(message: &[u8]) -> [u8; 32]
+pub(crate) fn hash(message: &[u8]) -> [u8; 32]
     requires { ⌜ length (now message) < 2 ^ 32 ⌝ }
     ensures answers { λ r. ⌜ r ≡ sha256 (now (message .entry)) ⌝ }
 {

@@ -2,7 +2,7 @@
 ghost use mathlib.Core.Path.{_≡_};
 ghost use Rattle.reader.specs.Same.{same-bytes};
 
-pub fn same(a: &[u8], b: &[u8]) -> bool
+pub(crate) fn same(a: &[u8], b: &[u8]) -> bool
     ensures answers { λ r. ⌜ r ≡ same-bytes (now (a .entry)) (now (b .entry)) ⌝ }
 {
     if a.len() != b.len() {

@@ -65,7 +65,7 @@ fn signed(rest: &[u8], at: usize, tag_at: usize) -> SignedStatement
 
 impl Evidence {
     // What follows an answer's first three bytes, taken apart.
-    pub fn read(kind: Kind, rest: &[u8]) -> Evidence
+    pub(crate) fn read(kind: Kind, rest: &[u8]) -> Evidence
         requires long { ⌜ head-length kind ≤ 3 + length (now rest) ⌝ }
         ensures answers { λ r. ⌜ r ≡ evidence-in kind (now (rest .entry)) ⌝ }
     {
@@ -94,7 +94,7 @@ impl Evidence {
         }
     }
 
-    pub fn first(self) -> SignedStatement
+    pub(crate) fn first(self) -> SignedStatement
         ensures answers { λ r. ⌜ r ≡ first-of self ⌝ }
     {
         match self {
@@ -107,7 +107,7 @@ impl Evidence {
         }
     }
 
-    pub fn second(self) -> Option<SignedStatement>
+    pub(crate) fn second(self) -> Option<SignedStatement>
         ensures answers { λ r. ⌜ r ≡ second-of self ⌝ }
     {
         match self {

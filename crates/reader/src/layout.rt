@@ -36,7 +36,7 @@ fn is_right_form(asked: Asked, kind: Kind, count: u8, size: u8) -> bool
 }
 
 // The kind of an answer of a length that begins with these three bytes.
-pub fn lay_out(
+pub(crate) fn lay_out(
     asked: Asked,
     number: u8,
     count: u8,
@@ -55,7 +55,7 @@ pub fn lay_out(
 }
 
 // How many bytes stand before the text after the first three.
-pub fn text_start(kind: Kind) -> usize
+pub(crate) fn text_start(kind: Kind) -> usize
     ensures answers { λ r. ⌜ r ≡ head-length kind - 3 ⌝ }
 {
     match kind {

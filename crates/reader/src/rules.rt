@@ -60,7 +60,11 @@ fn check_tag(
     )
 }
 
-pub fn check_tags(key: [u8; 32], evidence: Evidence, working: &mut [u8]) -> Result<(), ReaderFault>
+pub(crate) fn check_tags(
+    key: [u8; 32],
+    evidence: Evidence,
+    working: &mut [u8],
+) -> Result<(), ReaderFault>
     requires room { ⌜ 64 ≤ length (now working) ⌝ }
     ensures answers { λ r. ⌜ r ≡ tags key evidence ⌝ }
     ensures working { λ _. ⌜ wiped (now (working .exit)) ≡ wiped (now (working .entry)) ⌝ }
@@ -107,7 +111,11 @@ fn check_origin(
     )
 }
 
-pub fn check_origins(identity: [u8; 8], queue: u8, evidence: Evidence) -> Result<(), ReaderFault>
+pub(crate) fn check_origins(
+    identity: [u8; 8],
+    queue: u8,
+    evidence: Evidence,
+) -> Result<(), ReaderFault>
     ensures answers { λ r. ⌜ r ≡ origins identity queue evidence ⌝ }
 {
     let counter = counter_for(queue, evidence);
@@ -125,7 +133,7 @@ fn check_nonce(nonce: [u8; 32], signed: SignedStatement) -> Result<(), ReaderFau
     demand(same(&matter, &nonce), ReaderFault::WrongNonce(0))
 }
 
-pub fn check_nonces(nonce: [u8; 32], evidence: Evidence) -> Result<(), ReaderFault>
+pub(crate) fn check_nonces(nonce: [u8; 32], evidence: Evidence) -> Result<(), ReaderFault>
     ensures answers { λ r. ⌜ r ≡ nonces nonce evidence ⌝ }
 {
     match evidence {
@@ -182,7 +190,7 @@ fn check_end(status: Statement, advance: Statement) -> Result<(), ReaderFault>
     check_number(is_found_at(status.new, advance), 1)
 }
 
-pub fn check_numbers(position: u32, evidence: Evidence) -> Result<(), ReaderFault>
+pub(crate) fn check_numbers(position: u32, evidence: Evidence) -> Result<(), ReaderFault>
     ensures answers { λ r. ⌜ r ≡ numbers position evidence ⌝ }
 {
     match evidence {
@@ -242,7 +250,7 @@ fn check_digest(
     demand(same(&matter, &right), ReaderFault::WrongDigest(place))
 }
 
-pub fn check_digests(queue: u8, text: &[u8], evidence: Evidence) -> Result<(), ReaderFault>
+pub(crate) fn check_digests(queue: u8, text: &[u8], evidence: Evidence) -> Result<(), ReaderFault>
     requires short { ⌜ length (now text) ≤ 200 ⌝ }
     ensures answers { λ r. ⌜ r ≡ digests queue (now (text .entry)) evidence ⌝ }
 {

@@ -98,15 +98,15 @@ two-read xs tail s t h g e =
     let d2 = next 49 49 xs (encoded (t .statement)) b d1 m in
     let d3 = next 98 32 xs (s .tag) c d2 (h .tag-bytes) in
     let d4 = next 130 32 xs (t .tag) tail d3 (g .tag-bytes) in
-    let p1 = part-at 0 49 xs (encoded (s .statement)) a e n in
-    let p2 = part-at 49 49 xs (encoded (t .statement)) b d1 m in
-    let p3 = part-at 98 32 xs (s .tag) c d2 (h .tag-bytes) in
-    let p4 = part-at 130 32 xs (t .tag) tail d3 (g .tag-bytes) in
+    let said-first = part-at 0 49 xs (encoded (s .statement)) a e n in
+    let said-second = part-at 49 49 xs (encoded (t .statement)) b d1 m in
+    let tag-first = part-at 98 32 xs (s .tag) c d2 (h .tag-bytes) in
+    let tag-second = part-at 130 32 xs (t .tag) tail d3 (g .tag-bytes) in
     let l0 = ap length e ∙ length-append (encoded (s .statement)) a in
     let l1 = length-append (encoded (t .statement)) b in
     let l2 = length-append (s .tag) c in
     let l3 = length-append (t .tag) tail in
-    (read-again 0 98 xs s h p1 p3, read-again 49 130 xs t g p2 p4, d4, omega (arith, h .tag-bytes, g .tag-bytes))
+    (read-again 0 98 xs s h said-first tag-first, read-again 49 130 xs t g said-second tag-second, d4, omega (arith, h .tag-bytes, g .tag-bytes))
 
 -- an answer with one statement and no text, whose evidence is made of it
 bare-right :

@@ -52,6 +52,11 @@ pub extern "C" fn speed_log(area: &mut [u8], records: &[u8], size: usize) -> u32
 // Opens a slot store of 200 slots over the area and works it; the bytes that covers copied.
 #[unsafe(no_mangle)]
 pub extern "C" fn speed_slots(area: &mut [u8], records: &[u8], size: usize) -> u32 {
-    let mut rows = [Row { queue: 0, old: 0, new: 0, length: 0 }; 200];
+    let mut rows = [Row {
+        queue: 0,
+        old: 0,
+        new: 0,
+        length: 0,
+    }; 200];
     work(SlotStore::open(area, &mut rows), records, size)
 }

@@ -14,6 +14,6 @@ returns c =
       answers = c .add .ensures .answers;
       becomes = c .add .ensures .becomes;
       keeps = λ h n. ap (λ k. ltb k (m .slots)) (c .add .ensures .refused h) ∙ ap (ltb (l .used)) (c .add .ensures .keeps .0);
-      slots = store-kept (c .args .self .now) _ (c .add .ensures .keeps)
-    ; untouched = c .add .ensures .untouched;
+      slots = store-kept (c .args .self .now) _ (c .add .ensures .keeps);
+      untouched = c .add .ensures .untouched;
     }

@@ -23,5 +23,5 @@ returns c =
       unusable = λ e. c .lift .ensures .area ∙ area-untouched area (c .args .counter) (c .args .to) e;
       keeps = ap limit-of (c .lift .ensures .area) ∙ ap (λ b. cond {A = ℕ} b 4000000000 0) (area-stays area (c .args .counter) (c .args .to));
       area = c .lift .ensures .area;
-      lends = search needs
+      lends = search needs;
     }
