@@ -51,21 +51,6 @@ raised-more m region i h =
     let joined = append-assoc (take i region) (cleared m b ∷ []) (raised-by (m - ones (bits b)) (drop (i + 1) region)) in
     cc
 
--- a byte that is 0 has no bit to clear
-pub raised-past-zero : (m : ℕ) (region : List ℕ) (i : ℕ) → i < length region → getD region i 0 ≡ 0
-    → take (i + 1) region ++ raised-by m (drop (i + 1) region) ≡ take i region ++ raised-by m (drop i region)
-unfolding raised-by ones
-raised-past-zero m region i h e =
-    let all : m - 0 ≡ m = omega arith in
-    let front : take (i + 1) region ≡ take i region ++ 0 ∷ [] = take-more region i 0 h ∙ ap (λ b. take i region ++ b ∷ []) e in
-    let back : drop i region ≡ 0 ∷ drop (i + 1) region = drop-more region i 0 h ∙ ap (λ b. b ∷ drop (i + 1) region) e in
-    let whole : raised-by m (0 ∷ drop (i + 1) region) ≡ 0 ∷ raised-by m (drop (i + 1) region) =
-    ap₂ (λ b k. b ∷ raised-by k (drop (i + 1) region)) (cleared-whole m 0 (omega arith) (omega arith)) all
-    in
-    ap (λ xs. xs ++ raised-by m (drop (i + 1) region)) front
-    ∙ append-assoc (take i region) (0 ∷ []) (raised-by m (drop (i + 1) region))
-    ∙ ap (λ xs. take i region ++ xs) (sym (ap (raised-by m) back ∙ whole))
-
 -- the bits of a raised region are those of the region, the first that were 1 cleared
 pub bits-in-raised : (m : ℕ) (region : List ℕ) → bits-in (raised-by m region) ≡ clear m (bits-in region)
 unfolding bits-in raised-by clear

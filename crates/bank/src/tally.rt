@@ -90,10 +90,12 @@ pub fn raise_region(region: &mut [u8], by: u32)
             return;
         }
         let byte = region[i];
-        if byte == 0 {
-            continue;
+        let count = held(byte);
+        if count > left {
+            region[i] = clear_each(byte, left);
+            return;
         }
-        region[i] = clear_bits(byte, left);
-        left = left.saturating_sub(held(byte));
+        region[i] = 0;
+        left -= count;
     }
 }

@@ -2,9 +2,9 @@ use mathlib.Core.Path.{_≡_, _∙_, sym, ap, ap₂, subst}
 use mathlib.Core.List.{_++_}
 use Prim.Native.Nat.{_+_, _-_, _<_, _≤_}
 use native.Mathlib.Omega.{arith}
-use lib.ListN.{length, take, drop, set}
-use Rattle.bank.specs.Tally.{bits-in, raised-by, Clears}
-use Rattle.bank.proofs.TallyLaws.{raised-more, raised-past-zero, raised-stops, raised-ends, raise-clears}
+use lib.ListN.{length, getD, take, drop, set}
+use Rattle.bank.specs.Tally.{bits, bits-in, ones, raised-by, Clears}
+use Rattle.bank.proofs.TallyLaws.{raised-more, raised-stops, raised-ends, raise-clears}
 use Rattle.bank.proofs.tally.raise_region.Needs as need
 
 pub returns-then-left-eq0 : need.returns-then-left-eq0
@@ -20,19 +20,36 @@ returns-then-left-eq0 c =
       law = λ h. subst (λ bytes. Clears (c .args .by) (bits-in was) (bits-in bytes)) (sym done) (raise-clears (c .args .by) was h);
     }
 
-pub loop-i-again-then-byte-eq0 : need.loop-i-again-then-byte-eq0
-loop-i-again-then-byte-eq0 c =
-    let within : c .loop-i .i < length (c .loop-i .region) = omega arith in
-    raised-past-zero (c .loop-i .left) (c .loop-i .region) (c .loop-i .i) within (c .if-byte-eq0 .taken) ∙ c .loop-i .inv
-
 pub loop-i-again : need.loop-i-again
 loop-i-again c =
     let region = c .loop-i .region in
     let i = c .loop-i .i in
     let within : i < length region = omega arith in
+    let none = sym (c .held-count .ensures .whole (c .loop-i .left) (c .if-count-left .left)) in
     let more = raised-more (c .loop-i .left) region i within in
-    ap₂ (λ v m. take (i + 1) (set region i v) ++ raised-by m (drop (i + 1) (set region i v))) (c .clear-bits .ensures .answers) (c .saturating-sub-left .ensures ∙ ap (λ n. c .loop-i .left - n) (c .held .ensures .answers))
+    ap₂ (λ v m. take (i + 1) (set region i v) ++ raised-by m (drop (i + 1) (set region i v))) none (ap (λ n. c .loop-i .left - n) (c .held-count .ensures .answers))
     ∙ more ∙ c .loop-i .inv
+
+pub returns-then-count-left : need.returns-then-count-left
+returns-then-count-left c =
+    let region = c .loop-i .region in
+    let was = c .args .region .now in
+    let i = c .loop-i .i in
+    let left = c .loop-i .left in
+    let byte = getD region i 0 in
+    let next = set region i (c .clear-each .result) in
+    let within : i < length region = omega arith in
+    let spent : left - ones (bits byte) ≡ 0 = omega (arith, c .held-count .ensures .answers, c .if-count-left .taken) in
+    let done : next ≡ raised-by (c .args .by) was =
+    sym (raised-stops next (i + 1))
+    ∙ ap (λ m. take (i + 1) next ++ raised-by m (drop (i + 1) next)) (sym spent)
+    ∙ ap (λ v. take (i + 1) (set region i v) ++ raised-by (left - ones (bits byte)) (drop (i + 1) (set region i v))) (c .clear-each .ensures .answers)
+    ∙ raised-more left region i within ∙ c .loop-i .inv
+    in
+    record {
+      area = done;
+      law = λ h. subst (λ bytes. Clears (c .args .by) (bits-in was) (bits-in bytes)) (sym done) (raise-clears (c .args .by) was h);
+    }
 
 pub returns : need.returns
 returns c =
