@@ -27,8 +27,8 @@ fn space(size: usize, rows: usize) -> usize
 
 // Frees the first rows.
 fn free(rows: &mut [Row], count: usize)
-    requires within { count ≤ length rows.now }
-    ensures rows { rows.exit.now ≡ replicate count free_row ++ drop count rows.entry.now }
+    requires within { count ≤ length rows.old }
+    ensures rows { rows.new ≡ replicate count free_row ++ drop count rows.old }
 {
     for i in 0..count {
         rows[i] = FREE;
@@ -40,9 +40,9 @@ impl<'a> SlotStore<'a> {
     // stay as they are and are not used.
     pub fn open(area: &'a mut [u8], rows: &'a mut [Row]) -> SlotStore<'a>
         ensures answers { slot_held result ≡ [] }
-        ensures slots { slot_count result ≡ slot_space (length area.old) (length rows.entry.now) }
-        ensures area { slot_area result ≡ replicate (320 * slot_space (length area.old) (length rows.entry.now)) 0 ++ drop (320 * slot_space (length area.old) (length rows.entry.now)) area.old }
-        ensures rows { slot_rows result ≡ replicate (slot_space (length area.old) (length rows.entry.now)) free_row ++ drop (slot_space (length area.old) (length rows.entry.now)) rows.entry.now }
+        ensures slots { slot_count result ≡ slot_space (length area.old) (length rows.old) }
+        ensures area { slot_area result ≡ replicate (320 * slot_space (length area.old) (length rows.old)) 0 ++ drop (320 * slot_space (length area.old) (length rows.old)) area.old }
+        ensures rows { slot_rows result ≡ replicate (slot_space (length area.old) (length rows.old)) free_row ++ drop (slot_space (length area.old) (length rows.old)) rows.old }
     {
         let slots = space(area.len(), rows.len());
         clear(area, 0, SLOT * slots);

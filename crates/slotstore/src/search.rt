@@ -36,7 +36,7 @@ pub(crate) fn is_kept(row: Row, queue: u8, below: u32) -> bool
 // The first row in use whose record is of the queue and spans the position.
 pub(crate) fn find(rows: &[Row], used: usize, queue: u8, position: u32) -> Option<usize>
     requires within { used ≤ length rows.now }
-    ensures answers { First (row_covers queue position) rows.entry.now used result }
+    ensures answers { First (row_covers queue position) rows.now used result }
 {
     for i in 0..used {
         if is_covering(rows[i], queue, position) {
@@ -49,7 +49,7 @@ pub(crate) fn find(rows: &[Row], used: usize, queue: u8, position: u32) -> Optio
 // Whether a row in use has the queue for its lane and shares a position with the span from old + 1 to new.
 pub(crate) fn is_spanned(rows: &[Row], used: usize, queue: u8, old: u32, new: u32) -> bool
     requires within { used ≤ length rows.now }
-    ensures answers { result ≡ any_row (row_meets queue old new) (take used rows.entry.now) }
+    ensures answers { result ≡ any_row (row_meets queue old new) (take used rows.now) }
 {
     for i in 0..used {
         if is_met(rows[i], queue, old, new) {

@@ -84,8 +84,8 @@ fn free_slot(area: &mut [u8], index: usize)
 
 // Moves a row to another place, and frees its own.
 fn move_row(rows: &mut [Row], from: usize, to: usize)
-    requires places { (from < length rows.now) × (to < length rows.now) }
-    ensures rows { rows.exit.now ≡ slice_set (slice_set rows.entry.now to (slice_index_or rows.entry.now from free_row)) from free_row }
+    requires places { (from < length rows.old) × (to < length rows.old) }
+    ensures rows { rows.new ≡ slice_set (slice_set rows.old to (slice_index_or rows.old from free_row)) from free_row }
 {
     let row = rows[from];
     rows[to] = row;

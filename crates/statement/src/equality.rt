@@ -1,17 +1,22 @@
 // Two statements are equal where their bytes are.
-ghost use Rattle.std.specs.Prelude.{◌≡◌, Decides};
+ghost use Rattle.std.specs.Prelude.{◌≡◌, ◌==◌, Decides};
+ghost use Rattle.std.specs.Ordering.{on};
+ghost use Rattle.std.specs.Cmp.Lexicographic.{pointwise};
 ghost use Rattle.std.specs.Cmp.Rules.{comparing};
 ghost use Rattle.std.proofs.Common.{rules};
-ghost use Rattle.std.specs.Cmp as Keys;
+ghost use Rattle.statement.specs.Layout.{encoded, encoded_signed};
 
 use super::types::{SignedStatement, Statement};
 
 impl PartialEq for Statement {
-    ghost equals = { λ s t r. Decides r (s ≡ t) };
+    ghost eq = { on encoded (pointwise ◌==◌) };
 
-    ghost laws = { Keys.partial_equiv_from_equiv (Prim.search (comparing, rules)) };
+    ghost laws = { Prim.search (comparing, rules) };
 
-    fn eq(&self, other: &Statement) -> bool {
+    fn eq(&self, other: &Statement) -> bool
+        ensures value { result ≡ on encoded (pointwise ◌==◌) self.now other.now }
+        ensures decides { Decides result (self.now ≡ other.now) }
+    {
         self.encode() == other.encode()
     }
 }
@@ -21,12 +26,16 @@ impl Eq for Statement {
 }
 
 impl PartialEq for SignedStatement {
-    ghost equals = { λ s t r. Decides r (s ≡ t) };
+    ghost eq = { on encoded_signed (pointwise ◌==◌) };
 
-    ghost laws = { Keys.partial_equiv_from_equiv (Prim.search (comparing, rules)) };
+    ghost laws = { Prim.search (comparing, rules) };
 
-    fn eq(&self, other: &SignedStatement) -> bool {
-        self.encode() == other.encode()
+    fn eq(&self, other: &SignedStatement) -> bool
+        ensures value { result ≡ on encoded_signed (pointwise ◌==◌) self.now other.now }
+        ensures decides { Decides result (self.now ≡ other.now) }
+    {
+        let bytes = self.encode();
+        bytes == other.encode()
     }
 }
 

@@ -9,24 +9,24 @@ use super::types::Statement;
 impl Statement {
     // Whether the counter rose.
     pub fn is_advance(&self) -> bool
-        ensures answers { result ≡ is_advance self.entry.now }
+        ensures answers { result ≡ is_advance self.now }
     {
         self.old < self.new
     }
 
     // Whether the counter only stands.
     pub fn is_status(&self) -> bool
-        ensures answers { result ≡ is_status self.entry.now }
+        ensures answers { result ≡ is_status self.now }
     {
         self.old == self.new
     }
 
     // The statement's 49 bytes. They determine it.
     pub fn encode(&self) -> [u8; 49]
-        ensures answers { result ≡ encoded self.entry.now }
-        ensures sized { Sized self.entry.now }
-        ensures back { decoded result ≡ self.entry.now }
-        ensures determines { (t : Statement) → Sized t → encoded t ≡ result → t ≡ self.entry.now }
+        ensures answers { result ≡ encoded self.now }
+        ensures sized { Sized self.now }
+        ensures back { decoded result ≡ self.now }
+        ensures determines { (t : Statement) → Sized t → encoded t ≡ result → t ≡ self.now }
     {
         let Statement {
             identity,
@@ -46,7 +46,7 @@ impl Statement {
 
     // Writes the 49 bytes to the front of the part; a shorter one stays as it is.
     pub fn write(&self, part: &mut [u8])
-        ensures area { part.new ≡ (if nat_le 49 (length part.old) then encoded self.entry.now ++ drop 49 part.old else part.old) }
+        ensures area { part.new ≡ (if nat_le 49 (length part.old) then encoded self.now ++ drop 49 part.old else part.old) }
     {
         put(part, 0, &self.encode());
     }

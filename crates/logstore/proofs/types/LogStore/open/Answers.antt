@@ -16,10 +16,15 @@ invariant_of-result c =
     let f = g ∙ ap (λ y. replicate y 0 ++ drop room a) (sym z) in
     let d : drop room c.clear.new.area ≡ drop room a =
     ap (drop room) f ∙ drop_at (replicate (room - 0) 0) (drop room a) room (length-replicate (room - 0) 0 ∙ z) in
-    let long : length a ≡ length c.clear.new.area = omega arith in (
-      f ∙ ap (λ y. replicate (room - 0) 0 ++ y) (sym d),
-      (refl, (omega arith, (e ∙ ap log_space long, (refl, ((λ q p. omega arith), tt))))),
-    )
+    let long : length a ≡ length c.clear.new.area = omega arith in
+    record {
+      lies = f ∙ ap (λ y. replicate (room - 0) 0 ++ y) (sym d);
+      reach = refl;
+      full = omega arith;
+      right = e ∙ ap log_space long;
+      good = refl;
+      apart = λ q p. omega arith;
+    }
 
 pub returns : goal.returns
 returns c =

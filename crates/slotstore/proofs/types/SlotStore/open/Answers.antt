@@ -21,10 +21,12 @@ invariant_of-result c =
     let d : drop (320 * n) a1 ≡ drop (320 * n) a = ap (drop (320 * n)) f ∙ drop_at (replicate (320 * n) 0) (drop (320 * n) a) (320 * n) (length-replicate (320 * n) 0) in
     let h : drop n rows1 ≡ drop n rows = ap (drop n) g ∙ drop_at (replicate n free_row) (drop n rows) n (length-replicate n free_row) in
     let la : length a ≡ length a1 = omega arith in
-    let lr : length rows ≡ length rows1 = omega arith in (
-      f ∙ (ap (λ y. replicate (320 * n) 0 ++ y) (sym d) ∙ ap (λ m. replicate (320 * m) 0 ++ drop (320 * n) a1) z),
-      (
-        ap flat (g ∙ (ap (λ y. replicate n free_row ++ y) (sym h) ∙ ap (λ m. replicate m free_row ++ drop n rows1) z)),
-        (omega arith, (e ∙ (ap (λ m. slot_space m (length rows)) la ∙ ap (slot_space (length a1)) lr), (refl, ((λ q p. omega arith), tt)))),
-      ),
-    )
+    let lr : length rows ≡ length rows1 = omega arith in
+    record {
+      lies = f ∙ (ap (λ y. replicate (320 * n) 0 ++ y) (sym d) ∙ ap (λ m. replicate (320 * m) 0 ++ drop (320 * n) a1) z);
+      told = ap flat (g ∙ (ap (λ y. replicate n free_row ++ y) (sym h) ∙ ap (λ m. replicate m free_row ++ drop n rows1) z));
+      full = omega arith;
+      right = e ∙ (ap (λ m. slot_space m (length rows)) la ∙ ap (slot_space (length a1)) lr);
+      good = refl;
+      apart = λ q p. omega arith;
+    }

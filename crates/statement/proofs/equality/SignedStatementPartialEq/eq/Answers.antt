@@ -1,14 +1,14 @@
 use Rattle.std.proofs.Common.{sym, ap, ◌∙◌}
-use Rattle.std.proofs.lemmas.Slice.Eq.{slice_eq-Decides}
+use Rattle.std.specs.Cmp.Lexicographic.{bytes_decides}
 use Rattle.statement.specs.Layout.{decoded_signed, encoded_signed}
 use Rattle.statement.proofs.equality.SignedStatementPartialEq.eq.Goals as goal
-use Rattle.std.proofs.lemmas.Bool.Decides.{Decides-eqb}
 
 pub returns : goal.returns
 returns c =
-    let s = c.encode.ensures in
-    let t = c.encode-2.ensures in
-    let same = slice_eq-Decides Decides-eqb c.encode.result c.encode-2.result c.eq.result c.eq.ensures in (
-      (λ h. sym s.back ∙ (ap decoded_signed (same.0 h) ∙ t.back)),
-      (λ e. same.1 (s.answers ∙ (ap encoded_signed e ∙ sym t.answers))),
-    )
+    let s = c.encode-bytes.ensures in
+    let t = c.encode.ensures in
+    let same = bytes_decides c.encode-bytes.result c.encode.result in
+    record {
+      value = cc;
+      decides = ((λ h. sym s.back ∙ (ap decoded_signed (same.0 (sym c.eq.ensures ∙ h)) ∙ t.back)), (λ e. c.eq.ensures ∙ same.1 (s.answers ∙ (ap encoded_signed e ∙ sym t.answers))));
+    }

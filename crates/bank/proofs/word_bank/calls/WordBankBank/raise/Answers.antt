@@ -5,11 +5,11 @@ use Rattle.bank.proofs.word_bank.calls.WordBankBank.raise.Goals as goal
 
 pub invariant_of-self : goal.invariant_of-self
 invariant_of-self c =
-    let area = c.args.self.now.lent.area.now in (
-      c.lift.ensures.keeps ∙ c.args.self.now.known
-          ∙ sym (ap word_area c.lift.ensures.area ∙ area_stays area c.args.counter c.args.to),
-      tt,
-    )
+    let area = c.args.self.now.lent.area.now in
+    record {
+      known = c.lift.ensures.keeps ∙ c.args.self.now.known
+          ∙ sym (ap word_area c.lift.ensures.area ∙ area_stays area c.args.counter c.args.to);
+    }
 
 pub returns : goal.returns
 returns c =
