@@ -1,5 +1,5 @@
 // Two statements are equal where their bytes are.
-ghost use Rattle.std.specs.Prelude.{◌≡◌, ◌==◌, Decides};
+ghost use Rattle.std.specs.Prelude.{◌≡◌, ◌==◌, ◌↔◌, IsTrue};
 ghost use Rattle.std.specs.Ordering.{on};
 ghost use Rattle.std.specs.Cmp.Lexicographic.{pointwise};
 ghost use Rattle.std.specs.Cmp.Rules.{comparing};
@@ -15,7 +15,7 @@ impl PartialEq for Statement {
 
     fn eq(&self, other: &Statement) -> bool
         ensures value { result ≡ on encoded (pointwise ◌==◌) self.now other.now }
-        ensures decides { Decides result (self.now ≡ other.now) }
+        ensures decides { IsTrue result ↔ (self.now ≡ other.now) }
     {
         self.encode() == other.encode()
     }
@@ -32,7 +32,7 @@ impl PartialEq for SignedStatement {
 
     fn eq(&self, other: &SignedStatement) -> bool
         ensures value { result ≡ on encoded_signed (pointwise ◌==◌) self.now other.now }
-        ensures decides { Decides result (self.now ≡ other.now) }
+        ensures decides { IsTrue result ↔ (self.now ≡ other.now) }
     {
         let bytes = self.encode();
         bytes == other.encode()
