@@ -1,7 +1,7 @@
 -- Laws of bits, and of clearing the first of them that are 1.
 use Rattle.std.proofs.Common.{◌≡◌, ℕ, zero, suc, ◌+◌, ◌-◌, ◌<◌, ◌≤◌, cond, eqb, ◌⊎◌, List, [], ◌∷◌, ◌++◌, length, get_or, take, drop, replicate, sym, refl, ap, ◌∙◌, inl, inr, add_assoc, zero-add, arith}
 use native.Mathlib.Nat.{sub-zero}
-use Rattle.bank.specs.Tally.{bits, bits_in, zeros, ones, clear, cleared, Clears}
+use Rattle.bank.specs.Tally.{bits, bits_in, zeros, ones, clear, Clears}
 
 -- each is 0 or 1
 abbrev pub Bits : List ℕ → Type 0

@@ -1,9 +1,9 @@
 -- Laws of a region's number, and of a region that is raised.
-use Rattle.std.proofs.Common.{◌≡◌, ℕ, suc, ◌+◌, ◌-◌, ◌<◌, ◌≤◌, List, [], ◌∷◌, ◌++◌, length, get_or, take, drop, set, sym, refl, ap, ◌∙◌, subst, ap₂, arith}
+use Rattle.std.proofs.Common.{◌≡◌, ℕ, suc, ◌+◌, ◌-◌, ◌<◌, ◌≤◌, List, [], ◌∷◌, ◌++◌, length, get_or, take, drop, set, sym, refl, ap, ◌∙◌, subst, arith}
 use lib.Count as count
-use Rattle.std.proofs.lemmas.List.{at_drop_more, at_drop_all, take_more, take_more_set, drop-set-lt, append_assoc, drop_more, append-nil, take_all, take-append-drop}
+use Rattle.std.proofs.lemmas.List.{at_drop_more, at_drop_all, take_more_set, drop-set-lt, append_assoc, drop_more, append-nil, take_all, take-append-drop}
 use Rattle.bank.specs.Tally.{bits, bits_in, zeros, ones, tally, clear, cleared, raised_by, Clears}
-use Rattle.bank.proofs.ByteLaws.{zeros_of_byte, bits_of_cleared, cleared_whole}
+use Rattle.bank.proofs.ByteLaws.{zeros_of_byte, bits_of_cleared}
 use Rattle.bank.proofs.ClearLaws.{bits_in_region, zeros-append, clear-append, clear_clears}
 
 pub tally_cons : (b : ℕ) (bs : List ℕ) → tally (b ∷ bs) ≡ zeros (bits b) + tally bs

@@ -1,5 +1,5 @@
 -- What a bank means: sixteen numbers and a limit that none of them exceeds.
-use Rattle.std.specs.Prelude.{◌≡◌, ℕ, ◌<◌, ◌≤◌, true, false, cond, List, length, set, is_ok, Ok, Err, Decides, Result, ◌≢◌, nat_le, nat_lt, slice_index, slice_set}
+use Rattle.std.specs.Prelude.{◌≡◌, ℕ, ◌<◌, ◌≤◌, true, false, cond, List, length, is_ok, Ok, Err, Decides, Result, ◌≢◌, nat_le, nat_lt, slice_index, slice_set}
 use Rattle.bank.specs.declared.fault.BankFault.{BankFault}
 use Rattle.bank.specs.declared.fault.BankFault.TheVariants.{NoCounter, NotHigher, AboveLimit}
 

@@ -1,5 +1,5 @@
 -- A tag's answer by what its limits say, and its key block.
-use Rattle.std.proofs.Common.{◌≡◌, ℕ, ◌+◌, ◌-◌, ◌/◌, ◌<◌, ◌≤◌, [], ◌∷◌, ◌++◌, map, length, drop, replicate, Ok, Err, fold, sym, ap, ◌∙◌, zero-add, arith, length-append}
+use Rattle.std.proofs.Common.{◌≡◌, ℕ, ◌+◌, ◌/◌, ◌<◌, ◌≤◌, [], ◌∷◌, ◌++◌, map, length, drop, replicate, Ok, Err, fold, sym, ap, ◌∙◌, zero-add, arith, length-append}
 use Rattle.std.specs.List.{range_with_len, flat_map}
 use Rattle.std.proofs.lemmas.List.{append_assoc, drop-replicate, take_all}
 use Rattle.std.proofs.lemmas.Bool.Decides.{nat_tests}

@@ -1,5 +1,5 @@
 -- Laws of the wiped area.
-use Rattle.std.proofs.Common.{◌≡◌, ◌+◌, ◌-◌, ◌<◌, ◌≤◌, ◌++◌, length, drop, replicate, sym, refl, ap, ◌∙◌, ⊎_elim, arith, length-drop, drop_at}
+use Rattle.std.proofs.Common.{◌≡◌, ◌<◌, ◌≤◌, ◌++◌, length, drop, replicate, sym, refl, ap, ◌∙◌, ⊎_elim, arith, length-drop, drop_at}
 use Rattle.std.proofs.lemmas.Bool.{cases_lt}
 use Rattle.std.proofs.lemmas.Bool.Decides.{nat_tests}
 use Rattle.digest.specs.Bytes.{Bytes}

@@ -5,7 +5,6 @@ use Rattle.bank.specs.declared.fault.BankFault.{BankFault}
 use Rattle.bank.specs.declared.fault.BankFault.TheVariants.{NoCounter}
 use Rattle.bank.specs.Bank.{telling, raising, raised}
 use Rattle.statement.specs.declared.types.SignedStatement.{SignedStatement}
-use Rattle.dongle.specs.declared.fault.DongleFault.{DongleFault}
 use Rattle.dongle.specs.Trinket.{Trinket, Whole, stands, signed, passed_up, attesting, attested, stating}
 
 -- an answer that is no refusal passed the test before it

@@ -1,9 +1,9 @@
 -- What holds of every list of presses.
-use Rattle.std.proofs.Common.{◌≡◌, ℕ, ◌<◌, ◌≤◌, ◌⊎◌, List, [], ◌∷◌, ◌++◌, length, get_or, set, Ok, Err, Result, sym, refl, ap, ◌∙◌, subst, inl, inr, ⊎_elim, arith}
+use Rattle.std.proofs.Common.{◌≡◌, ℕ, ◌<◌, ◌≤◌, ◌⊎◌, List, [], ◌∷◌, ◌++◌, length, get_or, Ok, Err, Result, sym, refl, ap, ◌∙◌, subst, inl, inr, ⊎_elim, arith}
 use Rattle.std.proofs.lemmas.List.{get_or-set_same}
 use Rattle.statement.specs.declared.types.SignedStatement.{SignedStatement}
 use Rattle.dongle.specs.declared.fault.DongleFault.{DongleFault}
-use Rattle.dongle.specs.Trinket.{Trinket, Whole, stands, signed, attesting, attested, stating}
+use Rattle.dongle.specs.Trinket.{Trinket, Whole, stands, signed, attested}
 use Rattle.dongle.specs.Presses.{Press, attest, status, reply, pressed, said, after, issued}
 use Rattle.dongle.specs.Laws.{Among, Tells, Meet, PressesKeepTheirWord}
 use Rattle.dongle.proofs.Replies.{Accepted, attest_accepted, status_accepted, attest_raises, attest_whole}

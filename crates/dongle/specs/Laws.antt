@@ -1,5 +1,5 @@
 -- What holds of every list of presses, over a dongle of any make, wherever its counters stand at first.
-use Rattle.std.specs.Prelude.{◌≡◌, ℕ, ◌<◌, ◌≤◌, true, ◌⊎◌, List, [], ◌∷◌, ◌++◌, Ok}
+use Rattle.std.specs.Prelude.{◌≡◌, ℕ, ◌<◌, ◌≤◌, ◌⊎◌, List, [], ◌∷◌, ◌++◌, Ok}
 use Rattle.statement.specs.declared.types.SignedStatement.{SignedStatement}
 use Rattle.dongle.specs.Trinket.{Trinket, Whole, stands}
 use Rattle.dongle.specs.Presses.{Press, attest, status, reply, after, issued}

@@ -1,5 +1,5 @@
 -- The statements that the second dongle keeps.
-use Rattle.std.specs.Prelude.{ℕ, List, [], ◌∷◌, take, Ok, Err, Result, slice_index_or}
+use Rattle.std.specs.Prelude.{List, [], ◌∷◌, take, Ok, Err, Result, slice_index_or}
 use Rattle.statement.specs.declared.types.SignedStatement.{SignedStatement}
 use Rattle.dongle.specs.declared.fault.DongleFault.{DongleFault}
 use Rattle.dongle.specs.declared.recent.Recent.{Recent}

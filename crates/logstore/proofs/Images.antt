@@ -1,8 +1,8 @@
 -- The bytes of a log tell its records, and a log stays one when a record is laid behind the last or some are left out.
-use Rattle.std.proofs.Common.{◌≡◌, ℕ, zero, suc, ◌+◌, ◌-◌, ◌<◌, ◌≤◌, Bool, true, false, List, [], ◌∷◌, ◌++◌, length, take, drop, replicate, filter, sym, refl, ap, ◌∙◌, subst, append_assoc, arith}
-use Rattle.std.proofs.lemmas.List.{append-nil, drop_at, drop-append-le, drop-drop, drop-replicate, length-append, length-drop, length_push, length-replicate, length-take-le, replicate-append-replicate, take_at}
+use Rattle.std.proofs.Common.{◌≡◌, ℕ, zero, suc, ◌+◌, ◌-◌, ◌≤◌, Bool, true, false, List, [], ◌∷◌, ◌++◌, length, take, drop, replicate, filter, sym, refl, ap, ◌∙◌, subst, append_assoc, arith}
+use Rattle.std.proofs.lemmas.List.{append-nil, drop_at, drop-append-le, drop-drop, drop-replicate, length-append, length_push, length-replicate, length-take-le, replicate-append-replicate, take_at}
 use Rattle.notice.specs.Record.{is_record}
-use Rattle.store.specs.Meaning.{Bytes, Records, Apart, spanned, stays}
+use Rattle.store.specs.Meaning.{Bytes, Records, Apart, spanned}
 use Rattle.logstore.specs.Log.{two, laid, log_of, size_at, first, rest, parse, Layout, SoundLog}
 use Rattle.store.proofs.Sets.{records_push, apart_push, records_kept, apart_kept}
 

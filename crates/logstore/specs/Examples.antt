@@ -1,5 +1,5 @@
 -- The smallest log: one record with an empty text takes 116 bytes.
-use Rattle.std.specs.Prelude.{◌≡◌, ℕ, true, List, [], length, Ok, Err}
+use Rattle.std.specs.Prelude.{◌≡◌, true, [], length, Ok, Err}
 use Rattle.notice.specs.Record.{counter_of, text_of, is_record}
 use Rattle.store.specs.declared.fault.StoreFault.TheVariants.{DoesNotFit}
 use Rattle.store.specs.Meaning.{Bytes, putting}

@@ -1,7 +1,7 @@
 -- The bytes of the digest rule's input determine its parts.
-use Rattle.std.proofs.Common.{◌≡◌, ℕ, List, [], ◌∷◌, ◌++◌, length, get_or, take, drop, sym, ap, ◌∙◌}
+use Rattle.std.proofs.Common.{◌≡◌, ℕ, List, ◌++◌, length, get_or, take, drop, sym, ap, ◌∙◌}
 use Rattle.std.proofs.lemmas.List.{take_at, drop_at}
-use Rattle.statement.specs.Layout.{four, number}
+use Rattle.statement.specs.Layout.{number}
 use Rattle.statement.proofs.Layouts.{number-four}
 use Rattle.notice.specs.Input.{digest_input}
 

@@ -1,5 +1,5 @@
 -- What a word says as a number, case by case.
-use Rattle.std.proofs.Common.{◌≡◌, ℕ, ◌<◌, ◌≤◌, Bool, true, false, List, [], ◌∷◌, Ok, Err, fold, sym, ap, ◌∙◌, arith}
+use Rattle.std.proofs.Common.{◌≡◌, ℕ, ◌<◌, ◌≤◌, true, false, List, [], ◌∷◌, Ok, Err, fold, sym, ap, ◌∙◌, arith}
 use Rattle.std.proofs.lemmas.Bool.{cond-true, cond-false, le-leb, lt-leb}
 use Rattle.script.specs.declared.bad.Bad.TheVariants.{Number, Range}
 use Rattle.script.specs.Numbers.{digit_more, decimal_value, all_digits, number_in}

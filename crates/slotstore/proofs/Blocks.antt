@@ -1,7 +1,6 @@
 -- One slot among others: its bytes, what stands before it, and what follows.
-use Rattle.std.proofs.Common.{◌≡◌, ℕ, zero, suc, ◌+◌, ◌-◌, ◌*◌, ◌<◌, ◌≤◌, List, [], ◌∷◌, ◌++◌, map, length, get_or, take, drop, set, replicate, sym, refl, ap, ◌∙◌, subst, append_assoc, arith}
-use Rattle.std.proofs.lemmas.List.{append-nil, drop_at, drop-drop, drop_more, length-drop, length-map, length-take-le, map-append, take-append-drop, take_at, take-map}
-use Rattle.notice.specs.Record.{is_record}
+use Rattle.std.proofs.Common.{◌≡◌, ℕ, ◌+◌, ◌-◌, ◌*◌, ◌<◌, List, [], ◌∷◌, ◌++◌, length, get_or, take, drop, replicate, sym, refl, ap, ◌∙◌, append_assoc, arith}
+use Rattle.std.proofs.lemmas.List.{drop_at, drop-drop, drop_more, length-take-le, take-append-drop, take_at}
 use Rattle.store.specs.Meaning.{Bytes, Records}
 use Rattle.store.proofs.Sets.{records_take, record_at}
 use Rattle.slotstore.specs.Slots.{padded, slotted}

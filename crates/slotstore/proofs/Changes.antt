@@ -1,7 +1,7 @@
 -- Slots stay sound when a record is put into the next one, and when one takes the contents of the last.
-use Rattle.std.proofs.Common.{◌≡◌, ℕ, zero, suc, ◌+◌, ◌-◌, ◌*◌, ◌<◌, ◌≤◌, Bool, true, false, cond, List, [], ◌∷◌, ◌++◌, map, length, get_or, take, drop, set, replicate, sum_by, count_by, sym, refl, ap, ◌∙◌, subst, ⊎_elim, append_assoc, arith, take-add}
-use Rattle.std.proofs.lemmas.List.{append-nil, drop_all, drop_at, drop-append-le, drop-drop, drop_more, drop-replicate, get_or_append_left, get_or_at, get_or-drop, get_or-map, get_or-set_same, get_or-set_other, length-append, length-drop, length-map, length_push, length-replicate, length-set, length-take-le, map-append, map-set, replicate-append-replicate, set-append_left, set-append_right, set_split, take_all, take-append-le, take_at, take-map}
-use Rattle.std.proofs.lemmas.List.Sums.{sum_by-append, sum_by-cons, sum_by_more, sum_by-set}
+use Rattle.std.proofs.Common.{◌≡◌, ℕ, suc, ◌+◌, ◌-◌, ◌*◌, ◌<◌, ◌≤◌, true, false, cond, List, [], ◌∷◌, ◌++◌, map, length, get_or, take, drop, set, replicate, sum_by, sym, ap, ◌∙◌, subst, ⊎_elim, append_assoc, arith, take-add}
+use Rattle.std.proofs.lemmas.List.{append-nil, drop_all, drop_at, drop-append-le, drop-drop, drop_more, drop-replicate, get_or_append_left, get_or-drop, get_or-map, get_or-set_same, get_or-set_other, length-drop, length-map, length_push, length-replicate, length-set, length-take-le, map-append, map-set, replicate-append-replicate, set-append_left, set-append_right, set_split, take_all, take_at, take-map}
+use Rattle.std.proofs.lemmas.List.Sums.{sum_by_more, sum_by-set}
 use Rattle.std.proofs.lemmas.Bool.{and_from, cases_eq}
 use Rattle.notice.specs.Record.{is_record, covers}
 use Rattle.notice.proofs.Records.{record_short}

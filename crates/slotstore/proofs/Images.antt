@@ -1,11 +1,10 @@
 -- The bytes and rows of slots tell the records, and stay so when a record is put, or a slot takes the last one's contents.
-use Rattle.std.proofs.Common.{◌≡◌, ℕ, zero, suc, ◌+◌, ◌-◌, ◌*◌, ◌<◌, ◌≤◌, Bool, true, false, List, [], ◌∷◌, ◌++◌, map, length, get_or, take, drop, replicate, sym, refl, ap, ◌∙◌, subst, append_assoc, arith}
-use Rattle.std.proofs.lemmas.List.{append-nil, drop_at, drop-append-le, drop-drop, drop-replicate, length-append, length-drop, length-map, length_push, length-replicate, replicate-append-replicate, take_at}
+use Rattle.std.proofs.Common.{◌≡◌, ℕ, zero, suc, ◌-◌, ◌*◌, ◌≤◌, true, List, [], ◌∷◌, ◌++◌, map, length, take, drop, replicate, sym, refl, ap, ◌∙◌, subst, append_assoc, arith}
+use Rattle.std.proofs.lemmas.List.{drop_at, length-append, length-map, length-replicate, take_at}
 use Rattle.std.proofs.lemmas.Bool.{and_parts}
 use Rattle.notice.specs.Record.{is_record}
 use Rattle.notice.proofs.Records.{record_short}
-use Rattle.store.specs.Meaning.{Bytes, are_records, Records, Apart, spanned}
-use Rattle.store.proofs.Sets.{records_push, apart_push}
+use Rattle.store.specs.Meaning.{Bytes, are_records, Records, Apart}
 use Rattle.slotstore.specs.declared.row.Row.{Row}
 use Rattle.slotstore.specs.Rows.{free_row, row_of}
 use Rattle.slotstore.specs.Slots.{padded, slotted, slots_of, rows_of, in_slots, SoundSlots}

@@ -1,5 +1,5 @@
 -- What one call leaves as it was, and the next one too, both leave.
-use Rattle.std.proofs.Common.{◌≡◌, ◌*◌, drop, sym, ap, ◌∙◌}
+use Rattle.std.proofs.Common.{◌*◌, drop, sym, ap, ◌∙◌}
 use Rattle.slotstore.specs.declared.types.Slots.{Slots}
 use Rattle.slotstore.specs.SlotStores.{Same}
 

@@ -1,11 +1,9 @@
 -- A slot store is sound, and what its calls leave is kept.
-use Rattle.std.proofs.Common.{◌≡◌, ℕ, ◌+◌, ◌-◌, ◌*◌, ◌<◌, ◌≤◌, Bool, true, cond, ◌&&◌, eqb, ltb, leb, List, [], ◌++◌, length, take, drop, replicate, sym, refl, ap, ◌∙◌, arith}
+use Rattle.std.proofs.Common.{ℕ, ◌*◌, ◌≤◌, ◌&&◌, eqb, ltb, leb, ◌++◌, length, drop, sym, ap, ◌∙◌, arith}
 use Rattle.std.proofs.lemmas.Bool.{and_parts, cond_both, eqb-true, leb-true}
-use Rattle.slotstore.specs.declared.row.Row.{Row}
-use Rattle.slotstore.specs.declared.types.Slots.{Slots}
 use Rattle.slotstore.specs.declared.types.SlotStore.{SlotStore}
 use Rattle.slotstore.specs.Slots.{slots_of, rows_of, slot_space}
-use Rattle.slotstore.specs.SlotStores.{Sound, Same, Kept, records_in, slot_held}
+use Rattle.slotstore.specs.SlotStores.{Sound, Same, Kept, records_in}
 use Rattle.slotstore.proofs.Images.{length-in_slots}
 use Rattle.slotstore.proofs.RowLists.{flat_same}
 

@@ -1,6 +1,6 @@
 -- The laws of the layouts: what was written is read again, and the bytes determine the fields.
-use Rattle.std.proofs.Common.{◌≡◌, ℕ, suc, ◌+◌, ◌*◌, ◌/◌, ◌%◌, ◌^◌, ◌<◌, ◌≤◌, List, [], ◌∷◌, ◌++◌, length, get_or, take, drop, sym, refl, ap, ◌∙◌, append_assoc, arith, take-add}
-use Rattle.std.proofs.lemmas.List.{take_at, drop_at, drop-drop, get_or-append-add, length-append, length-take, length-drop, drop_more}
+use Rattle.std.proofs.Common.{◌≡◌, ℕ, suc, ◌+◌, ◌*◌, ◌/◌, ◌%◌, ◌^◌, ◌<◌, ◌≤◌, List, [], ◌∷◌, ◌++◌, length, get_or, take, drop, sym, ap, ◌∙◌, append_assoc, arith, take-add}
+use Rattle.std.proofs.lemmas.List.{take_at, drop_at, drop-drop, get_or-append-add, length-append, drop_more}
 use Rattle.statement.specs.declared.types.Statement.{Statement}
 use Rattle.statement.specs.declared.types.SignedStatement.{SignedStatement}
 use Rattle.statement.specs.Layout.{four, number, number_at, encoded, decoded, encoded_signed, decoded_signed, Sized, SizedSigned}

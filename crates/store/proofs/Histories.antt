@@ -1,13 +1,12 @@
 -- What holds of every store over any calls.
-use Rattle.std.proofs.Common.{◌≡◌, ℕ, zero, suc, ◌+◌, ◌<◌, ◌≤◌, Bool, true, false, cond, not, ◌&&◌, ◌⊎◌, List, [], ◌∷◌, ◌++◌, length, get_or, Some, None, Ok, sum_by, count_by, filter, Option, sym, refl, ap, ◌∙◌, subst, inl, inr, ⊎_elim, add-one, arith}
-use Rattle.std.specs.List.Sorted.{IsPermutation}
-use Rattle.std.specs.List.{ContainsAt as Has, AllByRecursion as All}
+use Rattle.std.proofs.Common.{◌≡◌, ℕ, zero, suc, ◌+◌, ◌<◌, ◌≤◌, Bool, true, false, cond, ◌⊎◌, List, [], ◌∷◌, ◌++◌, length, get_or, Some, None, count_by, filter, Option, sym, refl, ap, ◌∙◌, subst, inl, inr, ⊎_elim, add-one, arith}
+use Rattle.std.specs.List.{ContainsAt as Has}
 use Rattle.std.proofs.ByRecursion.{all-has, has_push, has_append_left, has_push_cases, kept_by_passes, has_shuffled}
 use Rattle.std.proofs.lemmas.List.Sorted.{IsPermutation-sym}
 use Rattle.std.proofs.lemmas.List.Sums.{get_or-le-sum_by, sum_by-cons}
 use Rattle.std.proofs.lemmas.Bool.{and_parts, and_from, both_ways, cases_Bool, cond-true, cond-false}
 use Rattle.notice.specs.Record.{covers}
-use Rattle.store.specs.Meaning.{Bytes, Records, Apart, putting, found, stays}
+use Rattle.store.specs.Meaning.{Bytes, Apart, found, stays}
 use Rattle.store.specs.Laws.{Change, added, forgot, Leads, outlives, FoundUntilForgotten, NothingElseFound, SetDecides}
 use Rattle.store.proofs.Puts.{put-passed}
 use Rattle.store.proofs.Sets.{apart_push, apart_kept, apart_shuffled}

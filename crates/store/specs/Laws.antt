@@ -1,6 +1,6 @@
 -- What holds of every store over any calls: a record that was put is found at each position that it spans until it is
 -- forgotten, nothing else is ever found there, and only the set of records decides.
-use Rattle.std.specs.Prelude.{◌≡◌, ℕ, Bool, true, false, ◌&&◌, List, [], ◌∷◌, ◌++◌, Some, Ok, filter}
+use Rattle.std.specs.Prelude.{◌≡◌, ℕ, Bool, true, ◌&&◌, List, [], ◌∷◌, ◌++◌, Some, Ok, filter}
 use Rattle.std.specs.List.Sorted.{IsPermutation}
 use Rattle.notice.specs.Record.{covers}
 use Rattle.store.specs.Meaning.{Bytes, Apart, putting, found, stays}

@@ -1,4 +1,4 @@
-use Rattle.std.proofs.Common.{◌≡◌, ◌≤◌, length, refl, lit≤}
+use Rattle.std.proofs.Common.{◌≡◌, length, refl, lit≤}
 use Rattle.digest.specs.Bytes.{Bytes}
 use Rattle.digest.specs.Sha256.{words, compressed}
 use Rattle.digest.proofs.Window.{reached}

@@ -1,8 +1,8 @@
-use Rattle.std.proofs.Common.{◌≡◌, ℕ, ◌+◌, ◌-◌, ◌≤◌, List, length, take, drop, sym, ap, ◌∙◌, subst, arith}
+use Rattle.std.proofs.Common.{◌≡◌, ℕ, ◌+◌, ◌-◌, List, length, sym, subst, arith}
 use Rattle.notice.proofs.Records.{record_short}
 use Rattle.logstore.specs.declared.extent.Extent.{Extent}
 use Rattle.store.specs.Meaning.{stays}
-use Rattle.logstore.specs.Log.{size_at, Layout}
+use Rattle.logstore.specs.Log.{Layout}
 use Rattle.logstore.proofs.Logs.{inside}
 use Rattle.logstore.proofs.Compacting.{Compacting, compacting_none, compacting-skips, compacting-keeps, compacting_all, is-good}
 use Rattle.logstore.proofs.edit.compact.Goals as goal

@@ -1,5 +1,5 @@
-use Rattle.std.proofs.Common.{◌≡◌, ◌+◌, ◌-◌, [], ◌++◌, length, take, drop, replicate, sym, refl, ap, ◌∙◌, arith, take-add}
-use Rattle.std.proofs.lemmas.List.{take-take, length-take-le, length-drop}
+use Rattle.std.proofs.Common.{◌≡◌, ◌+◌, ◌-◌, [], ◌++◌, length, take, drop, replicate, refl, ap, ◌∙◌, arith, take-add}
+use Rattle.std.proofs.lemmas.List.{length-take-le, length-drop}
 use Rattle.statement.proofs.Parts.{grown}
 use Rattle.logstore.proofs.edit.move_down.Goals as goal
 

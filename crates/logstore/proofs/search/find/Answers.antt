@@ -1,4 +1,4 @@
-use Rattle.std.proofs.Common.{◌≡◌, ◌+◌, ◌-◌, length, drop, Some, sym, refl, ap, ◌∙◌, subst, arith}
+use Rattle.std.proofs.Common.{◌-◌, drop, Some, sym, ap, ◌∙◌, subst, arith}
 use Rattle.notice.specs.Record.{covers}
 use Rattle.store.specs.Meaning.{found}
 use Rattle.logstore.specs.Log.{parse, Layout}

@@ -1,4 +1,4 @@
-use Rattle.std.proofs.Common.{◌≡◌, ◌+◌, ◌-◌, length, drop, sym, refl, ap, ◌∙◌, subst, arith}
+use Rattle.std.proofs.Common.{◌-◌, drop, sym, ap, ◌∙◌, subst, arith}
 use Rattle.store.specs.Meaning.{meets, any_meets}
 use Rattle.logstore.specs.Log.{parse, Layout}
 use Rattle.logstore.proofs.Logs.{inside, layout_more, rest-drop, met_here, met_later}

@@ -1,6 +1,6 @@
-use Rattle.std.proofs.Common.{◌≡◌, ◌+◌, ◌^◌, ◌<◌, length, refl, arith}
+use Rattle.std.proofs.Common.{◌+◌, length, refl, arith}
 use Rattle.std.proofs.lemmas.Bool.{leb-true}
-use Rattle.logstore.specs.Log.{laid, parse}
+use Rattle.logstore.specs.Log.{parse}
 use Rattle.logstore.proofs.Images.{appended, count_le_reach, length-parse}
 use Rattle.logstore.proofs.steps.append.Goals as goal
 

@@ -1,4 +1,4 @@
-use Rattle.std.proofs.Common.{◌≡◌, true, false, Err, sym, ap, ◌∙◌}
+use Rattle.std.proofs.Common.{true, false, Err, sym, ap, ◌∙◌}
 use Rattle.store.specs.declared.fault.StoreFault.TheVariants.{AlreadySpanned, DoesNotFit}
 use Rattle.logstore.specs.LogStores.{records_in}
 use Rattle.logstore.proofs.Images.{sound_layout}

@@ -1,7 +1,6 @@
-use Rattle.std.proofs.Common.{◌≡◌, ◌+◌, ◌-◌, ◌++◌, length, take, drop, replicate, sym, refl, ap, ◌∙◌, append_assoc, arith}
+use Rattle.std.proofs.Common.{◌≡◌, ◌+◌, ◌-◌, ◌++◌, take, drop, replicate, sym, refl, ap, ◌∙◌, append_assoc, arith}
 use Rattle.statement.proofs.Parts.{whole}
 use Rattle.store.specs.Meaning.{stays}
-use Rattle.logstore.specs.Log.{laid, parse}
 use Rattle.logstore.proofs.Images.{sound_layout, left_out}
 use Rattle.logstore.proofs.steps.remove.Goals as goal
 

@@ -1,6 +1,6 @@
 use Rattle.std.proofs.Common.{◌≡◌, ◌+◌, ◌*◌, get_or, drop, fold, sym, ap, ◌∙◌, arith}
 use Rattle.std.proofs.lemmas.List.{at_drop_more, at_drop_all}
-use Rattle.script.specs.Numbers.{decimal_value, digit_more}
+use Rattle.script.specs.Numbers.{digit_more}
 use Rattle.script.proofs.Numbers.{more_digits, no_number, too_large, small_enough}
 use Rattle.script.proofs.number.number.Goals as goal
 

@@ -1,4 +1,4 @@
-use Rattle.std.proofs.Common.{◌≡◌, ◌+◌, List, [], ◌∷◌, ◌++◌, replicate, vec_items, ap, ◌∙◌}
+use Rattle.std.proofs.Common.{◌++◌, replicate, vec_items, ap, ◌∙◌}
 use Rattle.std.specs.List.{flat_map}
 use Rattle.std.proofs.lemmas.List.{flat_map_more, replicate_more}
 use Rattle.script.specs.Shown.{hex}

@@ -1,6 +1,6 @@
-use Rattle.std.proofs.Common.{◌≡◌, [], ◌∷◌, ◌++◌, vec_items, decimal, sym, refl, ap, ◌∙◌, append_assoc}
+use Rattle.std.proofs.Common.{[], ◌∷◌, ◌++◌, vec_items, decimal, sym, refl, ap, ◌∙◌}
 use Rattle.std.proofs.lemmas.Bool.{cond-true, le-leb}
-use Rattle.script.specs.Shown.{hex, run_text}
+use Rattle.script.specs.Shown.{hex}
 use Rattle.script.proofs.Stretches.{laid}
 use Rattle.script.proofs.show.push_run.Goals as goal
 

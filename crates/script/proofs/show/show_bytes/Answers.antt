@@ -1,11 +1,9 @@
-use Rattle.std.proofs.Common.{◌≡◌, ℕ, ◌+◌, ◌-◌, ◌<◌, true, List, [], ◌∷◌, ◌++◌, length, get_or, take, drop, vec_items, sym, refl, ap, ◌∙◌, append-nil, arith}
+use Rattle.std.proofs.Common.{◌≡◌, ◌+◌, ◌-◌, ◌<◌, true, ◌++◌, length, get_or, take, drop, vec_items, sym, ap, ◌∙◌, append-nil, arith}
 use Rattle.std.specs.List.{prefix_len}
 use Rattle.std.proofs.lemmas.List.{take_rest, length-take, length-drop, nil_from_length}
 use Rattle.std.proofs.lemmas.Bool.{eqb-true, eqb-false}
-use Rattle.script.specs.declared.show.Before.{Before}
-use Rattle.script.specs.declared.show.Before.TheVariants.{Nothing}
 use Rattle.script.specs.Words.{marks}
-use Rattle.script.specs.Shown.{stretches, shown, shown_from, separator, counted, run_text, next_before}
+use Rattle.script.specs.Shown.{stretches, shown_from, separator, counted, run_text, next_before}
 use Rattle.script.proofs.Stretches.{shown_more, laid, shown_some}
 use Rattle.script.proofs.show.show_bytes.Goals as goal
 

@@ -1,4 +1,4 @@
-use Rattle.std.proofs.Common.{◌≡◌, ◌+◌, ◌||◌, take, drop, sym, ap, ◌∙◌, arith}
+use Rattle.std.proofs.Common.{◌+◌, ◌||◌, take, drop, sym, ap, ◌∙◌, arith}
 use Rattle.slotstore.specs.Rows.{row_meets, any_row}
 use Rattle.slotstore.proofs.RowLists.{any_row_more, any_row_all}
 use Rattle.slotstore.proofs.search.is_spanned.Goals as goal

@@ -1,4 +1,4 @@
-use Rattle.std.proofs.Common.{◌≡◌, ltb, Err, sym, refl, ap, ◌∙◌}
+use Rattle.std.proofs.Common.{ltb, Err, sym, refl, ap, ◌∙◌}
 use Rattle.std.proofs.lemmas.Result.{err_from_is_err_and}
 use Rattle.std.proofs.lemmas.Bool.{ltb-true, true≢false}
 use Rattle.store.proofs.Puts.{put-passed, after-put-ok, after-put-err}

@@ -1,4 +1,4 @@
-use Rattle.std.proofs.Common.{◌≡◌, ◌+◌, ◌*◌, ◌≤◌, ◌++◌, length, take, drop, set, refl, ap, arith}
+use Rattle.std.proofs.Common.{◌+◌, ◌*◌, ◌≤◌, ◌++◌, length, take, set, refl, ap, arith}
 use Rattle.std.proofs.lemmas.List.{length-set}
 use Rattle.notice.proofs.Records.{record_short}
 use Rattle.statement.proofs.Parts.{grown, whole}

@@ -1,4 +1,4 @@
-use Rattle.std.proofs.Common.{◌≡◌, ◌+◌, ◌-◌, ◌*◌, ◌++◌, length, take, drop, refl, ap, ◌∙◌, arith}
+use Rattle.std.proofs.Common.{◌≡◌, ◌+◌, ◌-◌, ◌*◌, ◌++◌, take, drop, refl, ap, ◌∙◌, arith}
 use Rattle.statement.proofs.Parts.{grown, whole}
 use Rattle.slotstore.proofs.steps.copy_slot.Goals as goal
 

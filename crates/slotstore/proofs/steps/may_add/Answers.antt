@@ -1,6 +1,5 @@
-use Rattle.std.proofs.Common.{◌≡◌, Bool, true, false, map, Err, sym, ap, ◌∙◌}
+use Rattle.std.proofs.Common.{true, false, Err, sym, ap, ◌∙◌}
 use Rattle.store.specs.declared.fault.StoreFault.TheVariants.{AlreadySpanned, DoesNotFit}
-use Rattle.store.specs.Meaning.{any_meets}
 use Rattle.store.proofs.Puts.{spanned_by, putting-bad, putting-spanned, putting-full, putting-fine}
 use Rattle.slotstore.specs.Rows.{row_meets, any_row}
 use Rattle.slotstore.specs.SlotStores.{records_in}

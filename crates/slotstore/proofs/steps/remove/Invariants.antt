@@ -1,4 +1,4 @@
-use Rattle.std.proofs.Common.{◌≡◌, ◌+◌, ◌-◌, ◌≤◌, ◌++◌, take, drop}
+use Rattle.std.proofs.Common.{◌≡◌, ◌-◌, ◌≤◌, ◌++◌, take, drop}
 use Rattle.store.specs.Meaning.{stays}
 use Rattle.slotstore.specs.Slots.{swept}
 use Rattle.slotstore.specs.SlotStores.{Sound, Same, records_in}

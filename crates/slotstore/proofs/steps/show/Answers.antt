@@ -1,4 +1,4 @@
-use Rattle.std.proofs.Common.{◌≡◌, ℕ, ◌+◌, ◌-◌, ◌*◌, ◌<◌, ◌≤◌, true, false, [], length, get_or, take, drop, Some, None, Ok, sym, ap, ◌∙◌, arith, rules}
+use Rattle.std.proofs.Common.{◌≡◌, ℕ, ◌+◌, ◌-◌, ◌*◌, ◌<◌, [], length, get_or, take, drop, Some, None, Ok, sym, ap, ◌∙◌, arith, rules}
 use Rattle.notice.specs.Record.{covers}
 use Rattle.notice.proofs.Records.{record_short}
 use Rattle.store.specs.Meaning.{found}

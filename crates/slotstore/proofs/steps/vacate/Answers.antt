@@ -1,4 +1,4 @@
-use Rattle.std.proofs.Common.{◌≡◌, ◌+◌, ◌-◌, ◌*◌, ◌≤◌, ◌++◌, length, get_or, take, drop, set, replicate, refl, ap, ◌∙◌, arith}
+use Rattle.std.proofs.Common.{◌≡◌, ◌+◌, ◌-◌, ◌*◌, ◌++◌, take, replicate, refl, arith}
 use Rattle.statement.proofs.Parts.{whole}
 use Rattle.slotstore.proofs.Changes.{vacated}
 use Rattle.slotstore.proofs.steps.vacate.Goals as goal

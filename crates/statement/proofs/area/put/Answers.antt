@@ -1,5 +1,5 @@
-use Rattle.std.proofs.Common.{◌≡◌, ◌+◌, ◌-◌, ◌≤◌, length, arith, rules}
-use Rattle.std.proofs.lemmas.Slice.{overwrites, take-put_mid, drop-put_mid}
+use Rattle.std.proofs.Common.{arith, rules}
+use Rattle.std.proofs.lemmas.Slice.{overwrites}
 use Rattle.statement.proofs.area.put.Goals as goal
 
 pub returns-then-size-area : goal.returns-then-size-area

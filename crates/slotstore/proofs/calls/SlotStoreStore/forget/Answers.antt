@@ -1,4 +1,4 @@
-use Rattle.std.proofs.Common.{◌≡◌, length, filter, sym, refl, ap, ◌∙◌, subst}
+use Rattle.std.proofs.Common.{filter, sym, ap, ◌∙◌, subst}
 use Rattle.std.specs.List.Sorted.{IsPermutation}
 use Rattle.store.specs.Meaning.{stays}
 use Rattle.slotstore.specs.Slots.{swept}

@@ -1,4 +1,4 @@
-use Rattle.std.proofs.Common.{ltb, refl, ap, ◌∙◌}
+use Rattle.std.proofs.Common.{ltb, ap, ◌∙◌}
 use Rattle.slotstore.proofs.Stores.{store_sound, store_kept}
 use Rattle.slotstore.proofs.calls.SlotStoreStore.put.Goals as goal
 

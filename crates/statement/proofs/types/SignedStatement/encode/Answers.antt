@@ -1,6 +1,6 @@
-use Rattle.std.proofs.Common.{◌≡◌, [], ◌++◌, length, take, replicate, sym, refl, ap, ◌∙◌, arith}
+use Rattle.std.proofs.Common.{◌≡◌, [], ◌++◌, replicate, sym, refl, ap, ◌∙◌, arith}
 use Rattle.std.proofs.lemmas.List.{take_all, append-nil}
-use Rattle.statement.specs.Layout.{encoded, encoded_signed, decoded_signed, SizedSigned}
+use Rattle.statement.specs.Layout.{encoded_signed, decoded_signed, SizedSigned}
 use Rattle.statement.proofs.Parts.{grown}
 use Rattle.statement.proofs.Layouts.{decoded-encoded_signed, encoded_signed_determines}
 use Rattle.statement.proofs.types.SignedStatement.encode.Goals as goal

@@ -1,7 +1,7 @@
 -- Part after part is put behind the last; the laws of the layout then say what the bytes tell.
-use Rattle.std.proofs.Common.{◌≡◌, ◌+◌, ◌^◌, ◌<◌, [], ◌∷◌, ◌++◌, length, take, replicate, sym, refl, ap, ◌∙◌, append_assoc, arith}
+use Rattle.std.proofs.Common.{◌≡◌, [], ◌∷◌, ◌++◌, replicate, sym, refl, ap, ◌∙◌, append_assoc, arith}
 use Rattle.std.proofs.lemmas.List.{take_all, append-nil}
-use Rattle.statement.specs.Layout.{encoded, decoded, four, Sized}
+use Rattle.statement.specs.Layout.{encoded, decoded, Sized}
 use Rattle.statement.proofs.Parts.{grown}
 use Rattle.statement.proofs.Layouts.{four_bytes, decoded-encoded, encoded_determines}
 use Rattle.statement.proofs.types.Statement.encode.Goals as goal
