@@ -24,7 +24,7 @@ drop_behind n k xs ys h = sym (drop-drop k n (xs ++ ys)) ∙ ap (drop k) (drop_a
 take-first : (n k : ℕ) (xs : List ℕ) → k < length xs → take (suc n) (drop k xs) ≡ get_or xs k 0 ∷ take n (drop (k + 1) xs)
 take-first n k xs h = ap (take (suc n)) (drop_more xs k 0 h)
 
-same_fields :
+pub same_fields :
     (s t : Statement) → s.identity ≡ t.identity → s.counter ≡ t.counter → s.old ≡ t.old → s.new ≡ t.new →
     s.matter ≡ t.matter → s ≡ t
 same_fields s t a b c d e = made a b c d e
@@ -98,6 +98,11 @@ encoded-decoded bytes long byte =
     ∙ (ap (λ z. (get_or bytes 9 0 ∷ get_or bytes 10 0 ∷ get_or bytes 11 0 ∷ get_or bytes 12 0 ∷ []) ++ (z ++ take 32 (drop 17 bytes))) n ∙ (cc)) in
     cc
 
+pub same_parts :
+    {a b : Statement} {t u : List ℕ} → a ≡ b → t ≡ u →
+    ◌≡◌ {A = SignedStatement} (record { statement = a; tag = t }) (record { statement = b; tag = u })
+same_parts a b = cc
+
 pub length-encoded_signed : (s : SignedStatement) → SizedSigned s → length (encoded_signed s) ≡ 81
 unfolding encoded_signed
 length-encoded_signed s h =
@@ -112,12 +117,7 @@ decoded-encoded_signed s rest h =
     let n = length-encoded s.statement h.sized in
     let b = ap (take 32) (drop_at (encoded s.statement) (s.tag ++ rest) 49 n) ∙ take_at s.tag rest 32 h.tag_bytes in
     let a = decoded-encoded s.statement (s.tag ++ rest) h.sized in
-    ap decoded_signed e ∙ made a b
-  where
-    made :
-        {a b : Statement} {t u : List ℕ} → a ≡ b → t ≡ u →
-        ◌≡◌ {A = SignedStatement} (record { statement = a; tag = t }) (record { statement = b; tag = u })
-    made a b = cc
+    ap decoded_signed e ∙ same_parts a b
 
 pub encoded_signed_determines :
     (s t : SignedStatement) → SizedSigned s → SizedSigned t → encoded_signed s ≡ encoded_signed t → s ≡ t

@@ -1,2 +1,3 @@
 pub mod Parts
 pub mod Layouts
+pub mod Equals

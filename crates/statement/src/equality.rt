@@ -1,20 +1,18 @@
 // Two statements are equal where their bytes are.
-ghost use Rattle.std.specs.Prelude.{◌≡◌, ◌==◌, ◌↔◌, IsTrue};
-ghost use Rattle.std.specs.Ordering.{on};
-ghost use Rattle.std.specs.Cmp.Lexicographic.{pointwise};
+ghost use Rattle.std.specs.Prelude.{◌≡◌, ◌↔◌, IsTrue};
 ghost use Rattle.std.specs.Cmp.Rules.{comparing};
 ghost use Rattle.std.proofs.Common.{rules};
-ghost use Rattle.statement.specs.Layout.{encoded, encoded_signed};
+ghost use Rattle.statement.specs.Equality.{statement_eq, signed_statement_eq};
 
 use super::types::{SignedStatement, Statement};
 
 impl PartialEq for Statement {
-    ghost eq = { on encoded (pointwise ◌==◌) };
+    ghost eq = { statement_eq };
 
     ghost laws = { Prim.search (comparing, rules) };
 
     fn eq(&self, other: &Statement) -> bool
-        ensures value { result ≡ on encoded (pointwise ◌==◌) self.now other.now }
+        ensures value { result ≡ statement_eq self.now other.now }
         ensures decides { IsTrue result ↔ (self.now ≡ other.now) }
     {
         self.encode() == other.encode()
@@ -26,12 +24,12 @@ impl Eq for Statement {
 }
 
 impl PartialEq for SignedStatement {
-    ghost eq = { on encoded_signed (pointwise ◌==◌) };
+    ghost eq = { signed_statement_eq };
 
-    ghost laws = { Prim.search (comparing, rules) };
+    ghost laws = { Prim.search (comparing, rules) depth 12 };
 
     fn eq(&self, other: &SignedStatement) -> bool
-        ensures value { result ≡ on encoded_signed (pointwise ◌==◌) self.now other.now }
+        ensures value { result ≡ signed_statement_eq self.now other.now }
         ensures decides { IsTrue result ↔ (self.now ≡ other.now) }
     {
         let bytes = self.encode();
@@ -40,5 +38,5 @@ impl PartialEq for SignedStatement {
 }
 
 impl Eq for SignedStatement {
-    ghost laws = { Prim.search (comparing, rules) };
+    ghost laws = { Prim.search (comparing, rules) depth 12 };
 }
