@@ -1,5 +1,5 @@
 -- The rules of an answer in the order in which they are tried. A refusal has the number of the first that fails.
-use Rattle.std.specs.Prelude.{◌≡◌, ℕ, ◌<◌, ◌≤◌, true, List, length, drop, Some, None, Ok, Err, Option, Result, slice_index, slice_index_or}
+use Rattle.std.specs.Prelude.{◌≡◌, ℕ, ◌<◌, ◌≤◌, true, List, length, drop, Some, None, Ok, Err, Option, Result, slice_index}
 use Rattle.digest.specs.Hmac.{hmac}
 use Rattle.statement.specs.declared.types.SignedStatement.{SignedStatement}
 use Rattle.statement.specs.Layout.{encoded}
@@ -50,9 +50,9 @@ refusal digest = 22
 
 -- the first three bytes are those of an answer of the kind to what was asked
 pub record Form (asked : Asked) (answer : List ℕ) (kind : Kind) : Type 0 where
-  pub number_is : slice_index_or answer 0 0 ≡ number_of_kind kind
+  pub number_is : slice_index answer 0 ≡ number_of_kind kind
   pub answers : answers_to asked kind ≡ true
-  pub count_is : slice_index_or answer 1 0 ≡ statements_of kind
+  pub count_is : slice_index answer 1 ≡ statements_of kind
   pub size_is : right_size kind (slice_index answer 2) ≡ true
 
 abbrev pub AlsoSecond : (SignedStatement → Type 0) → Option SignedStatement → Type 0
