@@ -1,9 +1,11 @@
 -- The laws of the layouts: what was written is read again, and the bytes determine the fields.
-use Rattle.std.proofs.Common.{◌≡◌, ℕ, suc, ◌+◌, ◌*◌, ◌/◌, ◌%◌, ◌^◌, ◌<◌, ◌≤◌, List, [], ◌∷◌, ◌++◌, length, get_or, take, drop, sym, ap, ◌∙◌, append_assoc, arith, take-add}
-use Rattle.std.proofs.lemmas.List.{take_at, drop_at, drop-drop, get_or-append-add, length-append, drop_more}
+use Rattle.std.proofs.Common.{◌≡◌, ℕ, suc, ◌+◌, ◌*◌, ◌/◌, ◌%◌, ◌^◌, ◌<◌, ◌≤◌, List, [], ◌∷◌, ◌++◌, length, get_or, take, drop, sym, ap, ◌∙◌, append_assoc, arith, take-add, Some, None, nat_le, if◌then◌else◌, refl, true}
+use Rattle.std.proofs.lemmas.Bool.Decides.{nat_tests}
+use Rattle.std.proofs.lemmas.Grind.{common_steps}
+use Rattle.std.proofs.lemmas.List.{take_at, drop_at, drop-drop, get_or-append-add, length-append, drop_more, append-nil, length-drop, length-take-le, get_or-take, get_or-drop, take_all, take-append-drop}
 use Rattle.statement.specs.declared.types.Statement.{Statement}
 use Rattle.statement.specs.declared.types.SignedStatement.{SignedStatement}
-use Rattle.statement.specs.Layout.{four, number, number_at, encoded, decoded, encoded_signed, decoded_signed, Sized, SizedSigned}
+use Rattle.statement.specs.Layout.{four, number, number_at, encoded, decoded, encoded_signed, decoded_signed, Sized, SizedSigned, IsEncoding, IsDecoding, statement_size, signed_statement_size}
 
 pub number-four : (n : ℕ) → number (four n) ≡ n
 number-four n = omega arith
@@ -132,3 +134,84 @@ unfolding encoded_signed
 encoded-decoded_signed bytes long byte =
     let e = encoded-decoded bytes (omega arith) byte in
     ap (λ z. z ++ take 32 (drop 49 bytes)) e ∙ sym (take-add 49 32 bytes)
+
+-- the bytes of a statement, and all that they tell
+pub encoding_of : (s : Statement) (bytes : List ℕ) → Sized s → bytes ≡ encoded s → IsEncoding encoded decoded Sized s bytes
+encoding_of s bytes h w =
+    record {
+      answers = w;
+      sized = h;
+      back = ap decoded (w ∙ sym (append-nil (encoded s))) ∙ decoded-encoded s [] h;
+      determines = λ t g f. encoded_determines t s g h (f ∙ w);
+    }
+
+pub signed_encoding_of :
+    (s : SignedStatement) (bytes : List ℕ) → SizedSigned s → bytes ≡ encoded_signed s →
+    IsEncoding encoded_signed decoded_signed SizedSigned s bytes
+signed_encoding_of s bytes h w =
+    record {
+      answers = w;
+      sized = h;
+      back = ap decoded_signed (w ∙ sym (append-nil (encoded_signed s))) ∙ decoded-encoded_signed s [] h;
+      determines = λ t g f. encoded_signed_determines t s g h (f ∙ w);
+    }
+
+-- the four bytes from a place on, cut out
+number-take-drop : (k : ℕ) (bytes : List ℕ) → number (take 4 (drop k bytes)) ≡ number_at k bytes
+number-take-drop k bytes =
+    let at = λ (i : ℕ) (h : i < 4). get_or-take 4 (drop k bytes) i 0 h ∙ get_or-drop k bytes i 0 in
+    let a : get_or (take 4 (drop k bytes)) 0 0 ≡ get_or bytes k 0 = at 0 (omega arith) ∙ ap (λ i. get_or bytes i 0) (omega arith) in
+    let b = at 1 (omega arith) in
+    let c = at 2 (omega arith) in
+    let d = at 3 (omega arith) in
+    omega (arith, a, b, c, d)
+
+-- the fields of a statement, each cut out of its bytes
+pub decoding_of :
+    (bytes : List ℕ) (s : Statement) (old new : List ℕ) → length bytes ≡ statement_size → ((k : ℕ) → get_or bytes k 0 < 256) →
+    s.identity ≡ take 8 bytes → s.counter ≡ get_or bytes 8 0 → s.old ≡ number old → old ≡ take 4 (drop 9 bytes) →
+    s.new ≡ number new → new ≡ take 4 (drop 13 bytes) → s.matter ≡ take 32 (drop 17 bytes) →
+    IsDecoding encoded decoded bytes s
+decoding_of bytes s old new size byte i c o o_cut n n_cut m =
+    let number_of = λ (k : ℕ) (cut : List ℕ) (e : cut ≡ take 4 (drop k bytes)). ap number e ∙ number-take-drop k bytes in
+    let answers = same_fields s (decoded bytes) i c (o ∙ number_of 9 old o_cut) (n ∙ number_of 13 new n_cut) m in
+    record {
+      answers = answers;
+      back = ap encoded answers ∙ (encoded-decoded bytes (omega arith) byte ∙ take_all statement_size bytes (omega arith));
+    }
+
+-- the parts of a signed statement, each cut out of its bytes
+pub signed_decoding_of :
+    (bytes : List ℕ) (s : SignedStatement) → IsDecoding encoded decoded (take statement_size bytes) s.statement →
+    s.tag ≡ take 32 (drop statement_size bytes) → length bytes ≡ signed_statement_size → Sized s.statement →
+    IsDecoding encoded_signed decoded_signed bytes s
+unfolding encoded_signed
+signed_decoding_of bytes s statement tag size h =
+    let whole : take statement_size bytes ++ take 32 (drop statement_size bytes) ≡ bytes =
+    sym (take-add statement_size 32 bytes) ∙ take_all signed_statement_size bytes (omega arith) in
+    let back : encoded s.statement ++ s.tag ≡ bytes = rw (statement.back, tag) whole in
+    let tag_bytes = ap length tag ∙ length-take-le 32 (drop statement_size bytes) (omega (arith, length-drop statement_size bytes)) in
+    record {
+      answers = sym (ap decoded_signed (sym back ∙ sym (append-nil (encoded_signed s))) ∙ decoded-encoded_signed s [] (record { sized = h; tag_bytes = tag_bytes }));
+      back = back;
+    }
+
+-- the value at the front of a part that is long enough
+pub front_read :
+    {S : Type 0} (n : ℕ) (of : List ℕ → S) (part bytes : List ℕ) (s : S) → n ≤ length part → bytes ≡ take n part →
+    ((rest : List ℕ) → of (bytes ++ rest) ≡ s) →
+    Some s ≡ (if nat_le n (length part) then Some (of part) else None)
+front_read n of part bytes s long cut front =
+    let e : of part ≡ s = ap of (sym (take-append-drop n part)) ∙ (ap (λ b. of (b ++ drop n part)) (sym cut) ∙ front (drop n part)) in
+    let yes : nat_le n (length part) ≡ true = grind (arith, nat_tests) in
+    rw (e, yes) refl
+
+-- the byte at a place and what lies behind it
+pub first_behind :
+    (k : ℕ) (bytes rest xs : List ℕ) (x : ℕ) → rest ≡ drop k bytes → rest ≡ x ∷ xs →
+    (x ≡ get_or bytes k 0) × (xs ≡ drop (k + 1) bytes)
+first_behind k bytes rest xs x r f =
+    let e : drop k bytes ≡ x ∷ xs = sym r ∙ f in (
+      ap (λ z. get_or z 0 0) (sym e) ∙ (get_or-drop k bytes 0 0 ∙ ap (λ i. get_or bytes i 0) (omega arith)),
+      ap (drop 1) (sym e) ∙ drop-drop 1 k bytes,
+    )
