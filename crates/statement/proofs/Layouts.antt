@@ -1,7 +1,6 @@
 -- The laws of the layouts: what was written is read again, and the bytes determine the fields.
 use Rattle.std.proofs.Common.{◌≡◌, ℕ, suc, ◌+◌, ◌*◌, ◌/◌, ◌%◌, ◌^◌, ◌<◌, ◌≤◌, List, [], ◌∷◌, ◌++◌, length, get_or, take, drop, sym, ap, ◌∙◌, append_assoc, arith, take-add, Some, None, nat_le, if◌then◌else◌, refl, true}
 use Rattle.std.proofs.lemmas.Bool.Decides.{nat_tests}
-use Rattle.std.proofs.lemmas.Grind.{common_steps}
 use Rattle.std.proofs.lemmas.List.{take_at, drop_at, drop-drop, get_or-append-add, length-append, drop_more, append-nil, length-drop, length-take-le, get_or-take, get_or-drop, take_all, take-append-drop}
 use Rattle.statement.specs.declared.types.Statement.{Statement}
 use Rattle.statement.specs.declared.types.SignedStatement.{SignedStatement}

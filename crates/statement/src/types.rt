@@ -19,7 +19,7 @@ pub struct Statement {
 }
 
 /// A statement, and the tag over its bytes by the dongle's key.
-#[derive(Clone, Copy, Debug, PartialEq, Eq)]
+#[derive(Clone, Copy, Debug, Eq, PartialEq)]
 pub struct SignedStatement {
     pub statement: Statement,
     pub tag: [u8; 32],

@@ -1,4 +1,4 @@
-use Rattle.std.proofs.Common.{◌≡◌, [], ◌++◌, replicate, sym, refl, ap, ◌∙◌, arith}
+use Rattle.std.proofs.Common.{[], ◌++◌, replicate, sym, refl, ap, ◌∙◌, arith}
 use Rattle.std.proofs.lemmas.List.{take_all}
 use Rattle.statement.specs.Layout.{encoded_signed, statement_size, signed_statement_size}
 use Rattle.statement.proofs.Parts.{grown}

@@ -1,7 +1,7 @@
 -- Part after part is put behind the last; the laws of the layout then say what the bytes tell.
-use Rattle.std.proofs.Common.{◌≡◌, [], ◌∷◌, ◌++◌, replicate, sym, refl, ap, ◌∙◌, append_assoc, arith}
-use Rattle.std.proofs.lemmas.List.{take_all, append-nil}
-use Rattle.statement.specs.Layout.{encoded, decoded, Sized, statement_size}
+use Rattle.std.proofs.Common.{◌≡◌, [], ◌∷◌, ◌++◌, replicate, sym, refl, ◌∙◌, append_assoc, arith}
+use Rattle.std.proofs.lemmas.List.{take_all}
+use Rattle.statement.specs.Layout.{encoded, statement_size}
 use Rattle.statement.proofs.Parts.{grown}
 use Rattle.statement.proofs.Layouts.{four_bytes, encoding_of}
 use Rattle.statement.proofs.convert.ArrayU8STATEMENTSIZEFromStatement.from.Goals as goal

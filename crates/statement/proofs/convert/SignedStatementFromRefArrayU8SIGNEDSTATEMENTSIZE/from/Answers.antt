@@ -1,4 +1,4 @@
-use Rattle.std.proofs.Common.{rules, ◌≡◌, ℕ, List, take, drop, subst, arith}
+use Rattle.std.proofs.Common.{rules, ◌≡◌, take, drop, subst, arith}
 use Rattle.statement.specs.Layout.{IsDecoding, encoded, decoded}
 use Rattle.statement.proofs.Layouts.{signed_decoding_of}
 use Rattle.statement.proofs.convert.SignedStatementFromRefArrayU8SIGNEDSTATEMENTSIZE.from.Goals as goal

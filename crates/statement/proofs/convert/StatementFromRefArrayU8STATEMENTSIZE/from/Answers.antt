@@ -1,6 +1,5 @@
-use Rattle.std.proofs.Common.{rules, ◌≡◌, ℕ, List, take, drop, get_or, ◌∷◌, ◌∙◌, ap, arith}
+use Rattle.std.proofs.Common.{rules, ◌≡◌, take, drop, ◌∷◌, ◌∙◌, ap, arith}
 use Rattle.std.proofs.lemmas.List.{drop-drop}
-use Rattle.statement.specs.Layout.{decoded, number_at}
 use Rattle.statement.proofs.Layouts.{decoding_of, first_behind}
 use Rattle.statement.proofs.convert.StatementFromRefArrayU8STATEMENTSIZE.from.Goals as goal
 

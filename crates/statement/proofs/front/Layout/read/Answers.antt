@@ -1,4 +1,4 @@
-use Rattle.std.proofs.Common.{rules, ◌≡◌, ◌≤◌, ℕ, List, length, take, drop, arith}
+use Rattle.std.proofs.Common.{rules, ◌≡◌, ◌≤◌, length, take}
 use Rattle.statement.proofs.Layouts.{front_read}
 use Rattle.statement.proofs.front.Layout.read.Goals as goal
 

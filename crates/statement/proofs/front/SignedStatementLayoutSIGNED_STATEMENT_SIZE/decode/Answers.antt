@@ -1,4 +1,4 @@
-use Rattle.std.proofs.Common.{◌≡◌, ◌++◌, ap, sym, ◌∙◌, arith}
+use Rattle.std.proofs.Common.{◌++◌, ap, sym, ◌∙◌, arith}
 use Rattle.statement.specs.Layout.{decoded_signed}
 use Rattle.statement.proofs.Layouts.{decoded-encoded_signed}
 use Rattle.statement.proofs.front.SignedStatementLayoutSIGNED_STATEMENT_SIZE.decode.Goals as goal

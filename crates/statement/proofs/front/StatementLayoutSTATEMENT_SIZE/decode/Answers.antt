@@ -1,4 +1,4 @@
-use Rattle.std.proofs.Common.{◌≡◌, ◌++◌, ap, sym, ◌∙◌, arith}
+use Rattle.std.proofs.Common.{◌++◌, ap, sym, ◌∙◌, arith}
 use Rattle.statement.specs.Layout.{decoded}
 use Rattle.statement.proofs.Layouts.{decoded-encoded}
 use Rattle.statement.proofs.front.StatementLayoutSTATEMENT_SIZE.decode.Goals as goal
