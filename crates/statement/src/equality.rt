@@ -9,5 +9,4 @@ use super::types::{SignedStatement, Statement};
 pub fn equal_where_every_field_is()
     ensures statement { (a b : Statement) → IsTrue (⟦<Statement as PartialEq>⟧.eq a b) ↔ (a ≡ b) }
     ensures signed { (a b : SignedStatement) → IsTrue (⟦<SignedStatement as PartialEq>⟧.eq a b) ↔ (a ≡ b) }
-{
-}
+{}
