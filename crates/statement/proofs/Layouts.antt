@@ -104,25 +104,18 @@ encoded-decoded_signed bytes long byte =
     let e = encoded-decoded bytes (omega arith) byte in
     ap (λ z. z ++ take 32 (drop statement_size bytes)) e ∙ sym (take-add statement_size 32 bytes)
 
--- the bytes of a statement, and all that they tell
-pub encoding_of : (s : Statement) (bytes : List ℕ) → Sized s → bytes ≡ encoded s → IsEncoding encoded decoded Sized s bytes
-encoding_of s bytes h w =
+-- the bytes of a value, and all that they tell, where every value is read again from its bytes
+pub encoding_of :
+    {S : Type 0} (encode : S → List ℕ) (decode : List ℕ → S) (Fits : S → Type 0) →
+    ((s : S) (rest : List ℕ) → Fits s → decode (encode s ++ rest) ≡ s) →
+    (s : S) (bytes : List ℕ) → Fits s → bytes ≡ encode s → IsEncoding encode decode Fits s bytes
+encoding_of encode decode Fits back s bytes fits answers =
+    let read : decode bytes ≡ s = ap decode (answers ∙ sym (append-nil (encode s))) ∙ back s [] fits in
     record {
-      answers = w;
-      sized = h;
-      back = ap decoded (w ∙ sym (append-nil (encoded s))) ∙ decoded-encoded s [] h;
-      determines = λ t g f. encoded_determines t s g h (f ∙ w);
-    }
-
-pub signed_encoding_of :
-    (s : SignedStatement) (bytes : List ℕ) → SizedSigned s → bytes ≡ encoded_signed s →
-    IsEncoding encoded_signed decoded_signed SizedSigned s bytes
-signed_encoding_of s bytes h w =
-    record {
-      answers = w;
-      sized = h;
-      back = ap decoded_signed (w ∙ sym (append-nil (encoded_signed s))) ∙ decoded-encoded_signed s [] h;
-      determines = λ t g f. encoded_signed_determines t s g h (f ∙ w);
+      answers = answers;
+      sized = fits;
+      back = read;
+      determines = λ t g e. sym (back t [] g) ∙ (ap decode (append-nil (encode t) ∙ e) ∙ read);
     }
 
 -- the four bytes from a place on, cut out

@@ -1,9 +1,9 @@
 -- Part after part is put behind the last; the laws of the layout then say what the bytes tell.
 use Rattle.std.proofs.Common.{◌≡◌, [], ◌∷◌, ◌++◌, replicate, sym, refl, ◌∙◌, append_assoc, arith}
 use Rattle.std.proofs.lemmas.List.{take_all}
-use Rattle.statement.specs.Layout.{encoded, statement_size}
+use Rattle.statement.specs.Layout.{encoded, decoded, Sized, statement_size}
 use Rattle.statement.proofs.Parts.{grown}
-use Rattle.statement.proofs.Layouts.{four_bytes, encoding_of}
+use Rattle.statement.proofs.Layouts.{four_bytes, encoding_of, decoded-encoded}
 use Rattle.statement.proofs.convert.ArrayU8STATEMENTSIZEFromStatement.from.Goals as goal
 
 pub returns : goal.returns
@@ -24,4 +24,4 @@ returns c =
     let f5 = grown 17 32 a4 a5 _ s.matter f4 (omega arith) c.put-5.ensures.front (omega arith) in
     let e : (((s.identity ++ (s.counter ∷ [])) ++ c.to_be_bytes.result) ++ c.to_be_bytes-2.result) ++ s.matter ≡ encoded s = rw (o, n) (simp append_assoc) in
     let written = sym (take_all statement_size a5 (omega arith)) ∙ (f5 ∙ e) in
-    encoding_of s a5 (record { identity_bytes = omega arith; matter_bytes = omega arith }) written
+    encoding_of encoded decoded Sized decoded-encoded s a5 (record { identity_bytes = omega arith; matter_bytes = omega arith }) written
