@@ -102,8 +102,12 @@ impl<'a> Record<'a> {
     pub fn previous(&self) -> Option<[u8; PREVIOUS_SIZE]>
         ensures answers { result ≡ (if nat_le (signed_size + previous_size) (length self.now) then Some (previous_of self.now) else None) }
     {
-        let digest = self.bytes.get(SIGNED_STATEMENT_SIZE..)?.first_chunk()?;
-        Some(*digest)
+        if self.bytes.len() < SIZE_AT {
+            return None;
+        }
+        let mut digest = [0; PREVIOUS_SIZE];
+        digest.copy_from_slice(&self.bytes[SIGNED_STATEMENT_SIZE..SIZE_AT]);
+        Some(digest)
     }
 
     /// The length of the text, as the record tells it.
@@ -116,14 +120,11 @@ impl<'a> Record<'a> {
     }
 
     /// The text: what follows the head.
-    #[tactic(auto, unfolding(crate::specs::Record::text_of))]
     pub fn text(&self) -> &'a [u8]
         ensures answers { result.now ≡ text_of self.now }
     {
-        match self.bytes.get(RECORD_HEAD..) {
-            Some(text) => text,
-            None => &[],
-        }
+        let from = self.bytes.len().min(RECORD_HEAD);
+        &self.bytes[from..]
     }
 
     /// Whether the bytes are a record that may be kept: the length right, the text within its limit, the
