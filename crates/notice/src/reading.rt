@@ -6,9 +6,9 @@ ghost use Rattle.notice.specs.Record.{signed_of, counter_of, old_of, new_of, que
 
 use std::marker::Model;
 
-use super::limits::{PREVIOUS_SIZE, RECORD_HEAD, SIGNED_STATEMENT_SIZE, TEXT_LIMIT};
+use super::limits::{PREVIOUS_SIZE, RECORD_HEAD, TEXT_LIMIT};
 use super::spans::Span;
-use statement::SignedStatement;
+use statement::{Layout, SIGNED_STATEMENT_SIZE, SignedStatement};
 
 // Where a signed statement has its counter, old and new, and a record its text length.
 const COUNTER_AT: usize = 8;
