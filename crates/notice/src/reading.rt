@@ -152,15 +152,9 @@ impl<'a> Record<'a> {
         requires small { at < 256 }
         ensures answers { result ≡ number_at at self.now }
     {
-        let bytes = self.bytes;
-        if at + 4 <= bytes.len() {
-            return u32::from_be_bytes([bytes[at], bytes[at + 1], bytes[at + 2], bytes[at + 3]]);
+        if let Some([first, second, third, fourth, ..]) = self.bytes.get(at..) {
+            return u32::from_be_bytes([*first, *second, *third, *fourth]);
         }
-        u32::from_be_bytes([
-            self.byte_at(at),
-            self.byte_at(at + 1),
-            self.byte_at(at + 2),
-            self.byte_at(at + 3),
-        ])
+        u32::from_be_bytes([at, at + 1, at + 2, at + 3].map(|place| self.byte_at(place)))
     }
 }
