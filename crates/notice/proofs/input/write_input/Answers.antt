@@ -24,9 +24,9 @@ returns c =
     let room : has_input_room n (length a) ≡ true = grind (arith, nat_tests) in
     let behind : drop n c.split_at_mut-digest.result.1.now ≡ drop (input_head + n) a =
     rw (c.split_at_mut-digest.ensures.back, c.split_at_mut-new.ensures.back, c.split_at_mut-old.ensures.back, c.split_at_mut-lane.ensures.back) (
-      drop_behind 32 n (32 + n) _ refl
-      ∙ (drop_behind 4 (32 + n) (36 + n) _ (omega arith)
-      ∙ (drop_behind 4 (36 + n) (40 + n) _ (omega arith) ∙ drop_behind 1 (40 + n) (input_head + n) a (omega arith)))
+    drop_behind 32 n (32 + n) _ refl
+    ∙ (drop_behind 4 (32 + n) (36 + n) _ (omega arith)
+    ∙ (drop_behind 4 (36 + n) (40 + n) _ (omega arith) ∙ drop_behind 1 (40 + n) (input_head + n) a (omega arith)))
     ) in
     let old = c.to_be_bytes.ensures ∙ four_bytes c.args.span.now.old (omega arith) in
     let new = c.to_be_bytes-2.ensures ∙ four_bytes c.args.span.now.new (omega arith) in
@@ -34,8 +34,15 @@ returns c =
       answers = grind (arith, nat_tests);
       area =
           rw (
-            room, behind, c.copy_from_slice.ensures.after, c.copy_from_slice-2.ensures.after,
-            c.copy_from_slice-3.ensures.after, c.copy_from_slice-4.ensures.after, c.copy_from_slice-5.ensures.after, old, new
+            room,
+            behind,
+            c.copy_from_slice.ensures.after,
+            c.copy_from_slice-2.ensures.after,
+            c.copy_from_slice-3.ensures.after,
+            c.copy_from_slice-4.ensures.after,
+            c.copy_from_slice-5.ensures.after,
+            old,
+            new,
           ) (simp append_assoc);
       determines = input_determines c.args.span.now c.args.previous.now c.args.text.now (omega arith);
     }

@@ -25,15 +25,20 @@ returns c =
     let room : has_room n (length a) ≡ true = grind (arith, nat_tests) in
     let behind : drop n c.split_at_mut-length.result.1.now ≡ drop (record_head + n) a =
     rw (c.split_at_mut-length.ensures.back, c.split_at_mut-digest.ensures.back, c.split_at_mut-statement.ensures.back) (
-      drop_behind 1 n (1 + n) _ refl
-      ∙ (drop_behind 32 (1 + n) (33 + n) _ (omega arith) ∙ drop_behind 81 (33 + n) (record_head + n) a (omega arith))
+    drop_behind 1 n (1 + n) _ refl
+    ∙ (drop_behind 32 (1 + n) (33 + n) _ (omega arith) ∙ drop_behind 81 (33 + n) (record_head + n) a (omega arith))
     ) in
     record {
       answers = grind (arith, nat_tests);
       area =
           rw (
-            room, behind, c.copy_from_slice.ensures.after, c.copy_from_slice-2.ensures.after,
-            c.copy_from_slice-3.ensures.after, c.copy_from_slice-4.ensures.after, c.into-bytes.ensures.answers
+            room,
+            behind,
+            c.copy_from_slice.ensures.after,
+            c.copy_from_slice-2.ensures.after,
+            c.copy_from_slice-3.ensures.after,
+            c.copy_from_slice-4.ensures.after,
+            c.into-bytes.ensures.answers,
           ) (simp append_assoc);
       back = recorded_tells c.args.signed.now c.args.previous.now c.args.text.now c.into-bytes.ensures.sized (omega arith);
     }
