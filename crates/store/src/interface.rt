@@ -29,10 +29,6 @@ pub trait Store {
     fn takes(&self, size: usize) -> bool
         ensures answers { result ≡ fits self.now size };
 
-    /// Tells whether a record of the span's lane shares a position with the span.
-    fn is_spanned(&self, span: &Span) -> bool
-        ensures answers { result ≡ any_meets span.now (held self.now) };
-
     /// Tells the number of records.
     fn count(&self) -> usize
         ensures answers { result ≡ length (held self.now) };
@@ -45,12 +41,19 @@ pub trait Store {
     /// Removes the records of the queue whose new is below a number.
     fn forget(&mut self, queue: u8, below: u32)
         ensures becomes { IsPermutation (filter (stays queue below) (held self.old)) (held self.new) };
+}
+
+/// A store that can search its records for a span. With that it has the tests of `put`.
+pub trait SpanSearch: Store {
+    /// Tells whether a record of the span's lane shares a position with the span.
+    fn is_spanned(&self, span: &Span) -> bool
+        ensures answers { result ≡ any_meets span.now (Self.held self.now) };
 
     /// The tests of `put`, in their order: the bytes are a record of the high counter of a queue, none of its
     /// positions is spanned, and it fits. Nothing is added.
     #[tactic(auto, unfolding(crate::specs::Meaning::putting, crate::specs::Meaning::spanned))]
     fn admit(&self, record: &[u8]) -> Result<(), StoreFault>
-        ensures answers { result ≡ putting (fits self.now (length «record».now)) (held self.now) «record».now }
+        ensures answers { result ≡ putting (Self.fits self.now (length «record».now)) (Self.held self.now) «record».now }
     {
         let size = record.len();
         let record = Record::from(record);

@@ -6,5 +6,5 @@ mod interface;
 mod laws;
 
 pub use fault::StoreFault;
-pub use interface::Store;
+pub use interface::{SpanSearch, Store};
 pub use laws::found_while_put_and_not_forgotten;
