@@ -39,10 +39,7 @@ impl<'a, F: Format> AreaBank<'a, F> {
     pub fn area_fault(&self) -> Option<BankFault>
         ensures answers { result ≡ (if F.format.usable (area_of self.now) then None else Some WrongArea) }
     {
-        match self.size {
-            Some(_) => None,
-            None => Some(BankFault::WrongArea),
-        }
+        self.size.is_none().then_some(BankFault::WrongArea)
     }
 
     /// Lets the bank go, and hands its area back.
@@ -97,10 +94,10 @@ impl<F: Format> Bank for AreaBank<'_, F> {
         if counter > 15 {
             return Err(BankFault::NoCounter(counter));
         }
-        Ok(match self.size {
-            Some(size) => number_at::<F>(self.area, size, counter),
-            None => 0,
-        })
+        let Some(size) = self.size else {
+            return Ok(0);
+        };
+        Ok(number_at::<F>(self.area, size, counter))
     }
 
     fn raise(&mut self, counter: u8, to: u32) -> Result<(), BankFault>
