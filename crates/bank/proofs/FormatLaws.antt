@@ -4,9 +4,9 @@ use Rattle.std.specs.Simd.{first_chunks}
 use Rattle.std.proofs.lemmas.List.{map-set}
 use Rattle.std.proofs.lemmas.Bool.{cases_Bool, cond-true}
 use Rattle.bank.specs.Bank.{MayRaise, raising, raised}
-use Rattle.bank.specs.Parts.{part, with_part}
-use Rattle.bank.specs.Format.{Format, Sixteen, Holds, size_in, part_of, numbers_of, numbers_by, limit_by, raised_by_format}
-use Rattle.bank.proofs.PartLaws.{get_or_map-first_chunks, length_part, length_with_part, first_chunks-with_part, part_with_part}
+use Rattle.bank.specs.Parts.{with_part}
+use Rattle.bank.specs.Format.{Format, Sixteen, Holds, size_in, part_of, numbers_of, numbers_by, limit_by}
+use Rattle.bank.proofs.PartLaws.{get_or_map-first_chunks, length_part, length_with_part, first_chunks-with_part}
 use Rattle.bank.proofs.Raising.{raises}
 
 -- an area with a size can be used
@@ -42,17 +42,6 @@ module _ (f : Format) (area new : List ℕ) (c to : ℕ) (s : Sixteen f area) (u
   next_usable : f.usable (with_part (f.size (length area)) c area new) ≡ true
   next_usable = h.usable area c u r.counter new_long
 
-  pub part_of-next : part_of f (with_part (f.size (length area)) c area new) c ≡ new
-  part_of-next =
-      ap (λ n. part (f.size n) c (with_part (f.size (length area)) c area new)) next_long
-      ∙ part_with_part 16 (f.size (length area)) c area new r.counter room new_long
-
-  pub size_in-next : size_in f (with_part (f.size (length area)) c area new) ≡ size_in f area
-  size_in-next = rw (next_usable, u) (ap (λ n. Some (f.size n)) next_long)
-
-  pub limit_by-next : limit_by f (with_part (f.size (length area)) c area new) ≡ limit_by f area
-  limit_by-next = rw (next_usable, u) (ap (λ n. f.limit (f.size n)) next_long)
-
   numbers_of-next : numbers_of f.number (f.size (length area)) (with_part (f.size (length area)) c area new) ≡ set (numbers_of f.number (f.size (length area)) area) c to
   unfolding numbers_of
   numbers_of-next =
@@ -69,7 +58,3 @@ module _ (f : Format) (area new : List ℕ) (c to : ℕ) (s : Sixteen f area) (u
       rw (next_usable, u) (ap (λ n. numbers_of f.number (f.size n) (with_part (f.size (length area)) c area new)) next_long ∙ numbers_of-next)
       in
       numbers ∙ sym (cond-true _ (set (numbers_by f area) c to) (numbers_by f area) accepted)
-
-  pub raised_by_format-is : new ≡ f.raised (part_of f area c) to → with_part (f.size (length area)) c area new ≡ raised_by_format f area c to
-  raised_by_format-is e =
-      ap (with_part (f.size (length area)) c area) e ∙ sym (cond-true _ (with_part (f.size (length area)) c area (f.raised (part_of f area c) to)) area accepted)

@@ -1,5 +1,5 @@
 // A bank over an area that the caller lends, in any format.
-ghost use Rattle.std.specs.Prelude.{◌≡◌, ◌<◌, true, false, length, is_ok, slice_index, if◌then◌else◌, Some, None};
+ghost use Rattle.std.specs.Prelude.{◌≡◌, ◌<◌, true, false, length, IsOk, slice_index, if◌then◌else◌, Some, None};
 ghost use Rattle.bank.specs.declared.fault.BankFault.TheVariants.{WrongArea};
 ghost use Rattle.bank.specs.Bank.{MayRaise, telling, raising, raised};
 ghost use Rattle.bank.specs.Format.{part_of, size_in, numbers_by, limit_by, raised_by_format};
@@ -105,7 +105,7 @@ impl<F: Format> Bank for AreaBank<'_, F> {
         ensures becomes { numbers_by F.format (area_of self.new) ≡ raised (limit_by F.format (area_of self.old)) (numbers_by F.format (area_of self.old)) counter to }
         ensures area { area_of self.new ≡ raised_by_format F.format (area_of self.old) counter to }
         ensures unusable { F.format.usable (area_of self.old) ≡ false → area_of self.new ≡ area_of self.old }
-        ensures law { is_ok result ≡ true → F.raises (part_of F.format (area_of self.old) counter) (part_of F.format (area_of self.new) counter) to }
+        ensures law { IsOk result → F.raises (part_of F.format (area_of self.old) counter) (part_of F.format (area_of self.new) counter) to }
         ensures keeps { limit_by F.format (area_of self.new) ≡ limit_by F.format (area_of self.old) }
         ensures lends { self.new.area.ghost_name ≡ self.old.area.ghost_name }
     {
