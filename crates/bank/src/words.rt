@@ -50,7 +50,7 @@ impl Format for Words {
     ghost parts_fit = { λ area usable. refl };
 
     fn part_size(area: &[u8]) -> Option<usize> {
-        is_usable(area).then_some(WORD_SIZE)
+        is_usable(area).then_some(Self::LONGEST)
     }
 
     fn limit(_size: usize) -> u32 {
