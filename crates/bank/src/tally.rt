@@ -81,11 +81,12 @@ pub fn raise_region(region: &mut [u8], by: u32)
 {
     let mut left = by;
     for byte in region.iter_mut() {
-        if left == 0 {
+        let ones = ones_in(*byte);
+        if ones > left {
+            *byte = clear_each(*byte, left);
             break;
         }
-        let ones = ones_in(*byte);
-        *byte = clear_bits(*byte, left);
-        left = left.saturating_sub(ones);
+        *byte = 0;
+        left -= ones;
     }
 }
