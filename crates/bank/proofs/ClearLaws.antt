@@ -1,5 +1,6 @@
 -- Laws of bits, and of clearing the first of them that are 1.
-use Rattle.std.proofs.Common.{◌≡◌, ℕ, zero, suc, ◌+◌, ◌-◌, ◌<◌, ◌≤◌, cond, eqb, ◌⊎◌, List, [], ◌∷◌, ◌++◌, length, get_or, take, drop, replicate, sym, refl, ap, ◌∙◌, inl, inr, add_assoc, zero-add, arith}
+use Rattle.std.proofs.Common.{◌≡◌, ℕ, zero, suc, ◌+◌, ◌-◌, ◌<◌, ◌≤◌, eqb, ◌⊎◌, List, [], ◌∷◌, ◌++◌, length, get_or, take, drop, replicate, sym, refl, ap, ◌∙◌, inl, inr, add_assoc, zero-add, arith}
+use Rattle.std.specs.Prelude.{if◌then◌else◌}
 use native.Mathlib.Nat.{sub-zero}
 use Rattle.bank.specs.Tally.{bits, bits_in, zeros, ones, clear, Clears}
 
@@ -24,10 +25,10 @@ bits_in_region (b ∷ bs) = bits-append (bits b) (bits_in bs) (bits_of_byte b) (
 pub zeros-append : (xs ys : List ℕ) → zeros (xs ++ ys) ≡ zeros xs + zeros ys
 unfolding zeros
 zeros-append [] ys = sym (zero-add (zeros ys))
-zeros-append (x ∷ xs) ys = ap (λ n. cond (eqb x 0) 1 0 + n) (zeros-append xs ys) ∙ sym (add_assoc (cond (eqb x 0) 1 0) (zeros xs) (zeros ys))
+zeros-append (x ∷ xs) ys = ap (λ n. (if eqb x 0 then 1 else 0) + n) (zeros-append xs ys) ∙ sym (add_assoc ((if eqb x 0 then 1 else 0)) (zeros xs) (zeros ys))
 
 -- a bit that is 0 is a zero, one that is 1 a one
-zero_or_one : (x : ℕ) → x < 2 → cond {A = ℕ} (eqb x 0) 1 0 + x ≡ 1
+zero_or_one : (x : ℕ) → x < 2 → (if eqb x 0 then 1 else 0) + x ≡ 1
 zero_or_one zero h = refl
 zero_or_one (suc zero) h = refl
 zero_or_one (suc (suc x)) h = absurd (omega arith)

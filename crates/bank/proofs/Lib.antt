@@ -2,7 +2,6 @@ pub mod PartLaws
 pub mod ByteLaws
 pub mod ClearLaws
 pub mod Raising
+pub mod FormatLaws
 pub mod TallyLaws
-pub mod TallyRaised
-pub mod WordLaws
-pub mod WordRaised
+pub mod Holding

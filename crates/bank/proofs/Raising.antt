@@ -1,41 +1,16 @@
 -- What a raise that is accepted tells, for any bank.
-use Rattle.std.proofs.Common.{◌≡◌, ℕ, ◌<◌, ◌≤◌, true, false, ltb, ◌⊎◌, List, length, get_or, set, is_ok, Ok, Result, ap, ◌∙◌, inl, inr, ⊎_elim, arith}
-use Rattle.std.proofs.lemmas.Bool.{lt-ltb, cond-true, cases_Bool, cases_eq, both_ways}
+use Rattle.std.proofs.Common.{◌≡◌, ℕ, ◌<◌, true, false, ◌⊎◌, List, length, get_or, set, is_ok, Ok, ap, ◌∙◌, inl, inr, ⊎_elim, arith}
+use Rattle.std.proofs.lemmas.Bool.{cases_Bool, cases_eq, both_ways}
 use Rattle.std.proofs.lemmas.List.{get_or-set_same, get_or-set_other, length-set}
 use Rattle.std.proofs.lemmas.Bool.Decides.{nat_tests}
-use Rattle.bank.specs.declared.fault.BankFault.{BankFault}
-use Rattle.bank.specs.Bank.{Sound, telling, rising, raising, raised, Raise}
+use Rattle.bank.specs.Bank.{Sound, MayRaise, raising, raised, Raise}
 
-pub record Accepted (limit : ℕ) (numbers : List ℕ) (c to : ℕ) : Type 0 where
-  pub counter : c < 16
-  pub higher : get_or numbers c 0 < to
-  pub within : to ≤ limit
-
-pub accepted : (limit : ℕ) (numbers : List ℕ) (c to : ℕ) → is_ok (raising limit numbers c to) ≡ true → Accepted limit numbers c to
+pub accepted : (limit : ℕ) (numbers : List ℕ) (c to : ℕ) → is_ok (raising limit numbers c to) ≡ true → MayRaise limit numbers c to
 accepted limit numbers c to e = record { counter = grind (arith, nat_tests); higher = grind (arith, nat_tests); within = grind (arith, nat_tests) }
 
--- a number is told of one of the sixteen only
-pub told_counter : (numbers : List ℕ) (c n : ℕ) → ◌≡◌ {A = Result ℕ BankFault} (Ok n) (telling numbers c) → c < 16
-told_counter numbers c n e = grind (arith, nat_tests)
-
-pub told_number : (numbers : List ℕ) (c n : ℕ) → ◌≡◌ {A = Result ℕ BankFault} (Ok n) (telling numbers c) → n ≡ get_or numbers c 0
-told_number numbers c n e =
-    let small : ltb c 16 ≡ true = lt-ltb c 16 (told_counter numbers c n e) in
-    let both : ◌≡◌ {A = Result ℕ BankFault} (Ok n) (Ok (get_or numbers c 0)) = e ∙ cond-true (ltb c 16) _ _ small in
-    cc
-
 -- a raise is accepted where nothing speaks against it
-pub raises : (limit : ℕ) (numbers : List ℕ) (c to : ℕ) → Accepted limit numbers c to → raising limit numbers c to ≡ Ok tt
+pub raises : (limit : ℕ) (numbers : List ℕ) (c to : ℕ) → MayRaise limit numbers c to → raising limit numbers c to ≡ Ok tt
 raises limit numbers c to a = grind (arith, nat_tests)
-
--- the same, from the two answers that the code asks for
-pub risen : (limit : ℕ) (numbers : List ℕ) (c to old most : ℕ) → ◌≡◌ {A = Result ℕ BankFault} (Ok old) (telling numbers c) → most ≡ limit
-    → ◌≡◌ {A = Result (Unit {0}) BankFault} (Ok tt) (rising most old c to) → Accepted limit numbers c to
-risen limit numbers c to old most told is ok =
-    let was = told_number numbers c old told in
-    let higher : old < to = grind (arith, nat_tests) in
-    let within : to ≤ most = grind (arith, nat_tests) in
-    record { counter = told_counter numbers c old told; higher = omega arith; within = omega arith }
 
 -- only the counter that is raised changes, and only to a number within the limit
 pub raise_by_rule : (limit : ℕ) (numbers : List ℕ) (c to : ℕ) → Sound numbers limit → Raise limit numbers c to
@@ -51,7 +26,7 @@ raise_by_rule limit numbers c to s = go (cases_Bool (is_ok (raising limit number
         λ k ne. ap (λ ns. get_or ns k 0) is ∙ get_or-set_other numbers c k to 0 ne
         in
         record {
-          accepts = (λ _. (omega (arith, a.counter), a.higher, a.within), λ _. e);
+          accepts = (λ _. a, λ _. e);
           sets = λ _. sets;
           others = others;
           refuses = λ no_raise. absurd (both_ways _ no_raise e);
@@ -70,7 +45,7 @@ raise_by_rule limit numbers c to s = go (cases_Bool (is_ok (raising limit number
         record {
           accepts = (
             λ ok. absurd (both_ways _ e ok),
-            λ h. ap is_ok (raises limit numbers c to (record { counter = omega (arith, h.0); higher = h.1; within = h.2 })),
+            λ h. ap is_ok (raises limit numbers c to h),
           );
           sets = λ ok. absurd (both_ways _ e ok);
           others = λ k _. ap (λ ns. get_or ns k 0) is;

@@ -1,7 +1,9 @@
 -- Laws of a region's number, and of a region that is raised.
-use Rattle.std.proofs.Common.{◌≡◌, ℕ, suc, ◌+◌, ◌-◌, ◌<◌, ◌≤◌, List, [], ◌∷◌, ◌++◌, length, get_or, take, drop, set, sym, refl, ap, ◌∙◌, subst, arith}
+use Rattle.std.proofs.Common.{◌≡◌, ℕ, suc, ◌+◌, ◌-◌, ◌<◌, ◌≤◌, List, [], ◌∷◌, ◌++◌, length, get_or, take, drop, set, sym, refl, ap, ◌∙◌, subst, ap₂, arith}
+use Rattle.std.specs.Prelude.{sum_by}
 use lib.Count as count
-use Rattle.std.proofs.lemmas.List.{at_drop_more, at_drop_all, take_more_set, drop-set-lt, append_assoc, drop_more, append-nil, take_all, take-append-drop}
+use Rattle.std.proofs.lemmas.List.Sums.{sum_by-cons}
+use Rattle.std.proofs.lemmas.List.{at_drop_all, take_more_set, drop-set-lt, append_assoc, drop_more, append-nil, take_all, take-append-drop}
 use Rattle.bank.specs.Tally.{bits, bits_in, zeros, ones, tally, clear, cleared, raised_by, Clears}
 use Rattle.bank.proofs.ByteLaws.{zeros_of_byte, bits_of_cleared}
 use Rattle.bank.proofs.ClearLaws.{bits_in_region, zeros-append, clear-append, clear_clears}
@@ -10,16 +12,14 @@ pub tally_cons : (b : ℕ) (bs : List ℕ) → tally (b ∷ bs) ≡ zeros (bits 
 unfolding bits_in
 tally_cons b bs = zeros-append (bits b) (bits_in bs)
 
--- the count goes on past a byte
-pub tally_more : (region : List ℕ) (i : ℕ) → i < length region → get_or region i 0 < 256
-    → tally (drop i region) ≡ count.ones (255 - get_or region i 0) + tally (drop (i + 1) region)
-tally_more region i h fits =
-    at_drop_more tally region i 0 h ∙ tally_cons (get_or region i 0) (drop (i + 1) region)
-    ∙ ap (λ n. n + tally (drop (i + 1) region)) (sym (zeros_of_byte (get_or region i 0) fits))
-
-pub tally_past : (region : List ℕ) (i : ℕ) → length region ≤ i → tally (drop i region) ≡ 0
+-- the count of a region is the sum of its bytes' counts
+pub sum_by-zeros : (region : List ℕ) → ((k : ℕ) → k < length region → get_or region k 0 < 256) → sum_by (λ b. count.ones (255 - b)) region ≡ tally region
 unfolding bits_in zeros
-tally_past region i h = at_drop_all tally region i h
+sum_by-zeros [] fits = refl
+sum_by-zeros (b ∷ bs) fits =
+    let first = zeros_of_byte b (fits 0 (omega arith)) in
+    let rest = sum_by-zeros bs (λ k h. fits (suc k) (omega arith)) in
+    sum_by-cons (λ x. count.ones (255 - x)) b bs ∙ ap₂ (λ m n. m + n) first rest ∙ sym (tally_cons b bs)
 
 pub raised_none : (region : List ℕ) → raised_by 0 region ≡ region
 unfolding raised_by cleared
@@ -59,6 +59,9 @@ bits_in_raised m (b ∷ bs) =
 pub raise_clears : (m : ℕ) (region : List ℕ) → m ≤ ones (bits_in region) → Clears m (bits_in region) (bits_in (raised_by m region))
 raise_clears m region h =
     subst (Clears m (bits_in region)) (sym (bits_in_raised m region)) (clear_clears m (bits_in region) (bits_in_region region) h)
+
+pub raised_clears : (m : ℕ) (was now : List ℕ) → now ≡ raised_by m was → m ≤ ones (bits_in was) → Clears m (bits_in was) (bits_in now)
+raised_clears m was now e h = subst (λ bytes. Clears m (bits_in was) (bits_in bytes)) (sym e) (raise_clears m was h)
 
 -- with none left to clear, and past the last byte, the region is as it will be
 pub raised_stops : (region : List ℕ) (i : ℕ) → take i region ++ raised_by 0 (drop i region) ≡ region

@@ -1,10 +1,10 @@
 pub mod Faults
 pub mod Bank
 pub mod Parts
+pub mod Format
 pub mod Word
-pub mod WordBank
 pub mod Tally
 pub mod TallyArea
-pub mod TallyBank
+pub mod AreaBank
 pub mod Soundness
 pub mod Examples

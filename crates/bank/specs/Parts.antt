@@ -1,12 +1,7 @@
 -- An area cut into equal parts, one for each counter.
-use Rattle.std.specs.Prelude.{ℕ, zero, suc, ◌+◌, ◌*◌, List, [], ◌∷◌, ◌++◌, take, drop}
+use Rattle.std.specs.Prelude.{ℕ, ◌+◌, ◌*◌, List, ◌++◌, take, drop}
 
--- The first n parts of s bytes.
-abbrev pub parts : ℕ → ℕ → List ℕ → List (List ℕ)
-parts zero s area = []
-parts (suc n) s area = take s area ∷ parts n s (drop s area)
-
--- The part of counter c.
+-- The part of counter c, where each has s bytes.
 abbrev pub part : ℕ → ℕ → List ℕ → List ℕ
 part s c area = take s (drop (s * c) area)
 

@@ -1,5 +1,9 @@
 -- A tally: a counter's number is the count of zero bits in its region, and a raise clears bits.
-use Rattle.std.specs.Prelude.{◌≡◌, ℕ, zero, suc, ◌+◌, ◌-◌, ◌*◌, ◌/◌, ◌%◌, cond, ◌⊎◌, List, [], ◌∷◌, ◌++◌, length, take, drop, replicate, ◌==◌, slice_index}
+use Rattle.std.specs.Prelude.{◌≡◌, ℕ, zero, suc, ◌+◌, ◌-◌, ◌*◌, ◌/◌, ◌%◌, if◌then◌else◌, ◌⊎◌, List, [], ◌∷◌, ◌++◌, length, take, drop, replicate, ◌==◌, slice_index}
+
+-- The most bytes of a region.
+abbrev pub longest_region : ℕ
+longest_region = 4096
 
 -- The bits of a byte, the most significant first.
 abbrev pub bits : ℕ → List ℕ
@@ -19,7 +23,7 @@ bits_in (b ∷ bs) = bits b ++ bits_in bs
 -- How many of some bits are 0, and how many are 1.
 unfoldable pub zeros : List ℕ → ℕ
 zeros [] = 0
-zeros (x ∷ xs) = cond (x == 0) 1 0 + zeros xs
+zeros (x ∷ xs) = (if x == 0 then 1 else 0) + zeros xs
 
 unfoldable pub ones : List ℕ → ℕ
 ones [] = 0

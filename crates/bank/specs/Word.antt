@@ -1,38 +1,42 @@
--- The word bank: an area of 64 bytes holds sixteen numbers of 32 bits.
-use Rattle.std.specs.Prelude.{ℕ, ◌+◌, ◌*◌, ◌/◌, ◌%◌, Bool, true, cond, ◌&&◌, List, [], ◌∷◌, map, length, replicate, is_ok, ◌==◌, nat_le, slice_index}
-use Rattle.bank.specs.Bank.{raising}
-use Rattle.bank.specs.Parts.{parts, with_part}
+-- The word bank: an area of 64 bytes holds sixteen numbers of 32 bits, the most significant byte first.
+use Rattle.std.specs.Prelude.{ℕ, Bool, ◌&&◌, List, length, ◌==◌, nat_le}
+use Rattle.std.specs.List.{list_all}
+use Rattle.std.specs.Int.{w32, from_be_bytes, to_be_bytes}
+use Rattle.bank.specs.Bank.{highest_limit}
+use Rattle.bank.specs.Format.{Format, numbers_of, numbers_by, limit_by, raised_by_format}
 
--- The number in four bytes, the most significant first.
-abbrev pub word : List ℕ → ℕ
-word bytes = slice_index bytes 0 * 16777216 + slice_index bytes 1 * 65536 + slice_index bytes 2 * 256 + slice_index bytes 3
+-- The bytes of a word, and of sixteen of them.
+abbrev pub word_size : ℕ
+word_size = 4
 
--- The four bytes of a number, the most significant first.
-abbrev pub bytes_of : ℕ → List ℕ
-bytes_of n = n / 16777216 % 256 ∷ n / 65536 % 256 ∷ n / 256 % 256 ∷ n % 256 ∷ []
-
--- No number is above the limit.
-unfoldable pub none_above : ℕ → List ℕ → Bool
-none_above limit [] = true
-none_above limit (n ∷ ns) = nat_le n limit && none_above limit ns
+abbrev pub words_size : ℕ
+words_size = 64
 
 -- The sixteen numbers that an area of 64 bytes holds.
-unfoldable pub words : List ℕ → List ℕ
-words area = map word (parts 16 4 area)
+abbrev pub words : List ℕ → List ℕ
+words area = numbers_of (from_be_bytes w32) word_size area
 
--- An area that can be used: it has 64 bytes, and no word is above 4,000,000,000.
+-- An area that can be used: it has 64 bytes, and no word is above the highest limit.
 unfoldable pub word_area : List ℕ → Bool
-unfolding none_above words
-word_area area = length area == 64 && none_above 4000000000 (words area)
+word_area area = length area == words_size && list_all (λ n. nat_le n highest_limit) (words area)
+
+abbrev pub word_format : Format
+word_format =
+    record {
+      usable = word_area;
+      size = λ _. word_size;
+      limit = λ _. highest_limit;
+      number = from_be_bytes w32;
+      raised = λ _ to. to_be_bytes w32 to;
+    }
 
 -- What the area means as a bank; one that cannot be used means sixteen zeros and the limit 0.
 abbrev pub numbers_in : List ℕ → List ℕ
-numbers_in area = cond (word_area area) (words area) (replicate 16 0)
+numbers_in area = numbers_by word_format area
 
 abbrev pub limit_of : List ℕ → ℕ
-limit_of area = cond (word_area area) 4000000000 0
+limit_of area = limit_by word_format area
 
 -- The area after a raise: the counter's four bytes are the new number's, and a refusal changes nothing.
 abbrev pub area_raised : List ℕ → ℕ → ℕ → List ℕ
-area_raised area c to =
-    cond (is_ok (raising (limit_of area) (numbers_in area) c to)) (with_part 4 c area (bytes_of to)) area
+area_raised area c to = raised_by_format word_format area c to

@@ -4,6 +4,12 @@ ghost use Rattle.bank.specs.Bank.{Sound, telling, rising, raising, raised};
 
 use crate::fault::BankFault;
 
+/// How many counters a bank has.
+pub(crate) const COUNTERS: usize = 16;
+
+/// The highest limit that a bank may have.
+pub(crate) const HIGHEST_LIMIT: u32 = 4_000_000_000;
+
 /// Sixteen numbers, counters 0 to 15, and a limit that none of them exceeds.
 pub trait Bank {
     // The sixteen numbers, and the limit.

@@ -1,19 +1,27 @@
 // Banks of sixteen counters that only rise, kept in an area that the caller lends.
 #![tactic(auto)]
 
+mod area_bank;
 mod counters;
 mod fault;
+mod format;
+mod tallies;
 pub mod tally;
-mod tally_bank;
-mod word;
-mod word_bank;
+mod words;
 mod worked;
 
+pub use area_bank::AreaBank;
 pub use counters::Bank;
 pub use fault::BankFault;
-pub use tally_bank::TallyBank;
-pub use word_bank::WordBank;
-pub use worked::{examples, raise_law};
+pub use tallies::Tallies;
+pub use words::Words;
+pub use worked::{raises_by_the_rule, worked_examples_hold};
+
+/// Sixteen words of 32 bits in an area of 64 bytes.
+pub type WordBank<'a> = AreaBank<'a, Words>;
+
+/// Sixteen tallies, each in a region of a sixteenth of the area.
+pub type TallyBank<'a> = AreaBank<'a, Tallies>;
 
 #[cfg(test)]
 mod tests;

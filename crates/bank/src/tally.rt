@@ -1,30 +1,34 @@
 // Tally arithmetic over byte slices: counting the zero bits of a region, and clearing its next bits.
 
-ghost use Rattle.std.specs.Prelude.{◌≡◌, ℕ, ◌+◌, ◌≤◌, length, if◌then◌else◌, Some, None, nat_le};
-ghost use Rattle.bank.specs.Tally.{bits, bits_in, ones, tally, next_cleared, cleared, raised_by, Clears};
+ghost use Rattle.std.specs.Prelude.{◌≡◌, ℕ, ◌+◌, ◌≤◌, length, if◌then◌else◌, Some, None, IfSome, IfNone, nat_le};
+ghost use Rattle.bank.specs.Tally.{longest_region, bits, bits_in, ones, tally, next_cleared, cleared, raised_by, Clears};
 
 /// The most bytes that a region may have.
 pub const LONGEST: usize = 4096;
 
-/// The most significant bit of a byte that is still 1, or 0 where none is.
-fn next_bit(byte: u8) -> u8
-    ensures answers { next_cleared byte + result ≡ byte }
+/// The most significant bit of a byte that is still 1.
+#[tactic(auto, using(crate::proofs::ByteLaws::next_by_leading, crate::proofs::ByteLaws::highest_fits))]
+fn next_bit(byte: u8) -> Option<u8>
+    ensures none { IfNone result (byte ≡ 0) }
+    ensures bit { IfSome result (λ bit. next_cleared byte + bit ≡ byte) }
 {
-    if byte == 0 {
-        return 0;
-    }
-    0x80 >> byte.leading_zeros()
+    0x80u8.checked_shr(byte.leading_zeros())
 }
 
 /// A byte once its next bit is cleared, the most significant that is still 1.
+#[tactic(auto, using(crate::proofs::ByteLaws::next_by_leading))]
 pub fn clear_next(byte: u8) -> u8
     ensures answers { result ≡ next_cleared byte }
 {
-    byte - next_bit(byte)
+    match next_bit(byte) {
+        Some(bit) => byte - bit,
+        None => byte,
+    }
 }
 
 /// How many bits of a byte are 1: with so many cleared it is 0.
-fn held(byte: u8) -> u32
+#[tactic(auto, using(crate::proofs::ByteLaws::ones_of_byte, crate::proofs::ByteLaws::cleared_whole))]
+fn ones_in(byte: u8) -> u32
     ensures answers { result ≡ ones (bits byte) }
     ensures whole { (m : ℕ) → result ≤ m → cleared m byte ≡ 0 }
 {
@@ -46,7 +50,7 @@ fn clear_each(byte: u8, many: u32) -> u8
 pub fn clear_bits(byte: u8, many: u32) -> u8
     ensures answers { result ≡ cleared many byte }
 {
-    if held(byte) <= many {
+    if ones_in(byte) <= many {
         return 0;
     }
     clear_each(byte, many)
@@ -54,19 +58,15 @@ pub fn clear_bits(byte: u8, many: u32) -> u8
 
 /// The count of zero bits in a region that is not too long for it.
 pub(crate) fn count_zeros(region: &[u8]) -> u32
-    requires short { length region.now ≤ 4096 }
+    requires short { length region.now ≤ longest_region }
     ensures answers { result ≡ tally region.now }
 {
-    let mut count: u32 = 0;
-    for byte in region {
-        count += byte.count_zeros();
-    }
-    count
+    region.iter().map(|byte| byte.count_zeros()).sum()
 }
 
 /// The number of a region, or none where it has more than 4,096 bytes.
 pub fn number_of(region: &[u8]) -> Option<u32>
-    ensures answers { result ≡ (if nat_le (length region.now) 4096 then Some (tally region.now) else None) }
+    ensures answers { result ≡ (if nat_le (length region.now) longest_region then Some (tally region.now) else None) }
 {
     if region.len() > LONGEST {
         return None;
@@ -80,17 +80,13 @@ pub fn raise_region(region: &mut [u8], by: u32)
     ensures law { by ≤ ones (bits_in region.old) → Clears by (bits_in region.old) (bits_in region.new) }
 {
     let mut left = by;
-    for i in 0..region.len() {
-        if left == 0 {
-            return;
+    for byte in region.iter_mut() {
+        let ones = ones_in(*byte);
+        if ones > left {
+            *byte = clear_each(*byte, left);
+            break;
         }
-        let byte = region[i];
-        let count = held(byte);
-        if count > left {
-            region[i] = clear_each(byte, left);
-            return;
-        }
-        region[i] = 0;
-        left -= count;
+        *byte = 0;
+        left -= ones;
     }
 }

@@ -1,8 +1,7 @@
 // What the banks do to areas that the caller sees again.
 use crate::counters::Bank;
 use crate::fault::BankFault;
-use crate::tally_bank::TallyBank;
-use crate::word_bank::WordBank;
+use crate::{TallyBank, WordBank};
 
 #[test]
 fn a_word_is_written_and_seen_again(rt: HostRuntime) {

@@ -4,15 +4,11 @@ ghost use Rattle.bank.specs.Bank.{RaisesByRule};
 ghost use Rattle.bank.specs.Examples.{Examples};
 
 /// A raise of any bank goes by the rule: there is nothing to run.
-pub fn raise_law() -> u8
+pub fn raises_by_the_rule()
     ensures hold { RaisesByRule }
-{
-    0
-}
+{}
 
 /// The worked examples hold: there is nothing to run.
-pub fn examples() -> u8
+pub fn worked_examples_hold()
     ensures hold { Examples }
-{
-    0
-}
+{}
