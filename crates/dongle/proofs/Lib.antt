@@ -1,3 +1,3 @@
-mod Kept
 mod Replies
 pub mod Runs
+pub mod Wipes

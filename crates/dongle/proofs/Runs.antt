@@ -1,11 +1,13 @@
 -- What holds of every list of presses.
-use Rattle.std.proofs.Common.{◌≡◌, ℕ, ◌<◌, ◌≤◌, ◌⊎◌, List, [], ◌∷◌, ◌++◌, length, get_or, Ok, Err, Result, sym, refl, ap, ◌∙◌, subst, inl, inr, ⊎_elim, arith}
+use Rattle.std.proofs.Common.{◌≡◌, ℕ, ◌<◌, ◌≤◌, List, [], ◌∷◌, ◌++◌, length, get_or, Ok, Err, Result, sym, refl, ap, ◌∙◌, subst, ⊎_elim, arith}
 use Rattle.std.proofs.lemmas.List.{get_or-set_same}
+use Rattle.std.proofs.lemmas.List.Elements.{Contains-append_cases}
+use Rattle.std.specs.List.{Contains}
 use Rattle.statement.specs.declared.types.SignedStatement.{SignedStatement}
 use Rattle.dongle.specs.declared.fault.DongleFault.{DongleFault}
 use Rattle.dongle.specs.Trinket.{Trinket, Whole, stands, signed, attested}
 use Rattle.dongle.specs.Presses.{Press, attest, status, reply, pressed, said, after, issued}
-use Rattle.dongle.specs.Laws.{Among, Tells, Meet, PressesKeepTheirWord}
+use Rattle.dongle.specs.Laws.{Tells, Meet, MonotonicWithoutEquivocation}
 use Rattle.dongle.proofs.Replies.{Accepted, attest_accepted, status_accepted, attest_raises, attest_whole}
 
 -- one press lowers no counter, and leaves the trinket whole
@@ -83,17 +85,10 @@ status_tells limit t before c nonce room s h =
     let u = after limit t before in
     tells_signed u c (stands u c) (stands u c) nonce s (status_accepted u c nonce room s h)
 
--- one of two lists, one after the other
-among_either : (s : SignedStatement) (xs ys : List SignedStatement) → Among s (xs ++ ys) → Among s xs ⊎ Among s ys
-among_either s [] ys h = inr h
-among_either s (x ∷ xs) ys (inl e) = inl (inl e)
-among_either s (x ∷ xs) ys (inr h) = ⊎_elim (λ k. inl (inr k)) (λ k. inr k) (among_either s xs ys h)
-
 -- what a reply says is the statement that it holds
-among_said : (s : SignedStatement) (r : Result SignedStatement DongleFault) → Among s (said r) → r ≡ Ok s
-among_said s (Ok x) (inl e) = ap Ok (sym e)
-among_said s (Ok x) (inr h) = absurd h
-among_said s (Err fault) h = absurd h
+contains_said : (s : SignedStatement) (r : Result SignedStatement DongleFault) → Contains (said r) s → r ≡ Ok s
+contains_said s (Ok x) (k, lt, e) = let first : k ≡ 0 = omega arith in ap Ok (ap (λ i. get_or (x ∷ []) i s) (sym first) ∙ e)
+contains_said s (Err fault) (k, lt, e) = absurd (omega arith)
 
 -- a statement that a press issued begins where its counter stood, and ends at most where it stands then
 begins : (limit : ℕ) (t : Trinket) (p : Press) (s : SignedStatement) → reply limit t p ≡ Ok s →
@@ -120,49 +115,50 @@ ends limit t (status c nonce room) s w h =
 
 -- every statement of a list of presses begins at or above where its counter stood at first
 pub not_before : (limit : ℕ) (t : Trinket) (presses : List Press) (s : SignedStatement) →
-    Among s (issued limit t presses) → stands t s.statement.counter ≤ s.statement.old
+    Contains (issued limit t presses) s → stands t s.statement.counter ≤ s.statement.old
 unfolding issued
-not_before limit t [] s h = absurd h
+not_before limit t [] s (i, lt, e) = absurd (omega arith)
 not_before limit t (p ∷ ps) s h =
     ⊎_elim
-    (λ k. omega (arith, begins limit t p s (among_said s (reply limit t p) k)))
+    (λ k. omega (arith, begins limit t p s (contains_said s (reply limit t p) k)))
     (λ k. omega (arith, press_raises limit t p s.statement.counter, not_before limit (pressed limit t p) ps s k))
-    (among_either s (said (reply limit t p)) (issued limit (pressed limit t p) ps) h)
+    (Contains-append_cases (said (reply limit t p)) (issued limit (pressed limit t p) ps) s h)
 
 -- a statement that a press issued, and one that was issued later, do not meet
 apart : (limit : ℕ) (t : Trinket) (p : Press) (ps : List Press) (a b : SignedStatement) → Whole t →
-    Among a (said (reply limit t p)) → Among b (issued limit (pressed limit t p) ps) →
+    Contains (said (reply limit t p)) a → Contains (issued limit (pressed limit t p) ps) b →
     a.statement.counter ≡ b.statement.counter → a.statement.new ≤ b.statement.old
 apart limit t p ps a b w h k same =
-    let upper = ends limit t p a w (among_said a (reply limit t p) h) in
+    let upper = ends limit t p a w (contains_said a (reply limit t p) h) in
     let lower = not_before limit (pressed limit t p) ps b k in
     let one = ap (stands (pressed limit t p)) same in
     omega arith
 
-pub no_two_stories : (limit : ℕ) (t : Trinket) → Whole t → (presses : List Press) (a b : SignedStatement) →
-    Among a (issued limit t presses) → Among b (issued limit t presses) → Meet a b → a ≡ b
+pub no_equivocation : (limit : ℕ) (t : Trinket) → Whole t → (presses : List Press) (a b : SignedStatement) →
+    Contains (issued limit t presses) a → Contains (issued limit t presses) b → Meet a b → a ≡ b
 unfolding issued
-no_two_stories limit t w [] a b h k m = absurd h
-no_two_stories limit t w (p ∷ ps) a b h k m =
+no_equivocation limit t w [] a b (i, lt, e) k m = absurd (omega arith)
+no_equivocation limit t w (p ∷ ps) a b h k m =
     let later = issued limit (pressed limit t p) ps in
     ⊎_elim
     (λ ha.
     ⊎_elim
-    (λ kb. let e = among_said a (reply limit t p) ha in let f = among_said b (reply limit t p) kb in cc)
+    (λ kb. let e = contains_said a (reply limit t p) ha in let f = contains_said b (reply limit t p) kb in cc)
     (λ kb. absurd (omega (arith, apart limit t p ps a b w ha kb m.counters, m.b_begins)))
-    (among_either b (said (reply limit t p)) later k))
+    (Contains-append_cases (said (reply limit t p)) later b k))
     (λ ha.
     ⊎_elim
     (λ kb. absurd (omega (arith, apart limit t p ps b a w kb ha (sym m.counters), m.a_begins)))
-    (λ kb. no_two_stories limit (pressed limit t p) (press_whole limit t p w) ps a b ha kb m)
-    (among_either b (said (reply limit t p)) later k))
-    (among_either a (said (reply limit t p)) later h)
+    (λ kb. no_equivocation limit (pressed limit t p) (press_whole limit t p w) ps a b ha kb m)
+    (Contains-append_cases (said (reply limit t p)) later b k))
+    (Contains-append_cases (said (reply limit t p)) later a h)
 
-pub presses_keep_their_word : PressesKeepTheirWord
-presses_keep_their_word =
+pub monotonic_without_equivocation : MonotonicWithoutEquivocation
+monotonic_without_equivocation =
     record {
       never_falls = never_falls;
-      advance_tells_its_step = advance_tells;
+      advance_tells_its_step = λ limit t w before c to matter room s h. (advance_tells limit t w before c to matter room s h).0;
+      advance_rises = λ limit t w before c to matter room s h. (advance_tells limit t w before c to matter room s h).1;
       status_tells_its_place = status_tells;
-      no_two_stories = no_two_stories;
+      no_equivocation = no_equivocation;
     }

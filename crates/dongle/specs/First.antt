@@ -6,6 +6,6 @@ abbrev pub trinket_over : List ℕ → List ℕ → List ℕ → Trinket
 trinket_over identity key numbers = record { identity = identity; key = key; numbers = numbers }
 
 -- it is whole over an identity and a key of the right length and sixteen numbers
-pub whole_over : (identity key numbers : List ℕ) → (length identity ≡ 8) × (length key ≡ 32) → length numbers ≡ 16 → Whole (trinket_over identity key numbers)
-whole_over identity key numbers sized sixteen =
-    record { identity_bytes = sized.0; key_bytes = sized.1; sixteen = sixteen }
+pub whole_over : (identity key numbers : List ℕ) → length identity ≡ 8 → length key ≡ 32 → length numbers ≡ 16 → Whole (trinket_over identity key numbers)
+whole_over identity key numbers identity_bytes key_bytes sixteen =
+    record { identity_bytes = identity_bytes; key_bytes = key_bytes; sixteen = sixteen }

@@ -1,26 +1,24 @@
 -- The statements that the second dongle keeps.
-use Rattle.std.specs.Prelude.{List, [], ◌∷◌, take, Ok, Err, Result, slice_index_or}
+use Rattle.std.specs.Prelude.{ℕ, List, ◌∷◌, take, Ok, Err, Result}
 use Rattle.statement.specs.declared.types.SignedStatement.{SignedStatement}
 use Rattle.dongle.specs.declared.fault.DongleFault.{DongleFault}
-use Rattle.dongle.specs.declared.recent.Recent.{Recent}
+use Rattle.dongle.specs.declared.second.SecondDongle.{SecondDongle}
+
+-- the dongle below
+abbrev pub dongle_in : {D : Type 0} → SecondDongle D → D
+dongle_in second = second.inner
 
 -- those that are kept, the newest first
-abbrev pub kept_in : Recent → List SignedStatement
-kept_in recent = take recent.count recent.slots
+abbrev pub kept_in : {D : Type 0} → SecondDongle D → List SignedStatement
+kept_in second = second.recent.items
+
+-- how many are kept at most
+abbrev pub most_kept : ℕ
+most_kept = 8
 
 -- one more in front, and of nine the eight newest
 abbrev pub with_newest : SignedStatement → List SignedStatement → List SignedStatement
-with_newest newest kept = take 8 (newest ∷ kept)
-
--- what stands where nothing does
-abbrev pub nothing : SignedStatement
-nothing = record { statement = record { identity = []; counter = 0; old = 0; new = 0; matter = [] }; tag = [] }
-
--- eight places with the newest in the first and every other one place further
-abbrev pub shifted : SignedStatement → List SignedStatement → List SignedStatement
-shifted newest slots =
-    newest ∷ slice_index_or slots 0 nothing ∷ slice_index_or slots 1 nothing ∷ slice_index_or slots 2 nothing ∷ slice_index_or slots 3 nothing
-    ∷ slice_index_or slots 4 nothing ∷ slice_index_or slots 5 nothing ∷ slice_index_or slots 6 nothing ∷ []
+with_newest newest kept = take most_kept (newest ∷ kept)
 
 -- what is kept after attest: a statement that it issued is the newest, and a refusal changes nothing
 abbrev pub kept_after : Result SignedStatement DongleFault → List SignedStatement → List SignedStatement

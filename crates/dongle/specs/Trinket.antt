@@ -1,8 +1,9 @@
 -- What a dongle means: a trinket, which is an identity, a key and sixteen numbers, beside a limit.
-use Rattle.std.specs.Prelude.{◌≡◌, ℕ, cond, List, length, Ok, Err, Result, nat_lt, slice_index}
+use Rattle.std.specs.Prelude.{◌≡◌, ℕ, if◌then◌else◌, List, length, Ok, Err, Result, nat_lt, slice_index}
 use Rattle.bank.specs.declared.fault.BankFault.{BankFault}
 use Rattle.bank.specs.Bank.{telling, raising, raised}
 use Rattle.digest.specs.Hmac.{hmac}
+use Rattle.digest.specs.Sizes.{block_size}
 use Rattle.statement.specs.declared.types.Statement.{Statement}
 use Rattle.statement.specs.declared.types.SignedStatement.{SignedStatement}
 use Rattle.statement.specs.Layout.{encoded}
@@ -48,17 +49,17 @@ valuing t c = passed_up (telling t.numbers c) (λ n. n)
 -- what attest answers over a working area of the given room: first the area is looked at, then what the bank refuses
 abbrev pub attesting : ℕ → Trinket → ℕ → ℕ → List ℕ → ℕ → Result SignedStatement DongleFault
 attesting limit t c to matter room =
-    cond (nat_lt room 64) (Err ShortWorkingArea)
-    (passed_up (raising limit t.numbers c to) (λ _. signed t c (stands t c) to matter))
+    if nat_lt room block_size then Err ShortWorkingArea
+    else passed_up (raising limit t.numbers c to) (λ _. signed t c (stands t c) to matter)
 
 -- the trinket after it: one counter is set, and a refusal changes nothing
 abbrev pub attested : ℕ → Trinket → ℕ → ℕ → ℕ → Trinket
 attested limit t c to room =
-    cond (nat_lt room 64) t
-    (record { identity = t.identity; key = t.key; numbers = raised limit t.numbers c to })
+    if nat_lt room block_size then t
+    else record { identity = t.identity; key = t.key; numbers = raised limit t.numbers c to }
 
 -- what status answers: both numbers are the counter's, and the nonce is the matter
 abbrev pub stating : Trinket → ℕ → List ℕ → ℕ → Result SignedStatement DongleFault
 stating t c nonce room =
-    cond (nat_lt room 64) (Err ShortWorkingArea)
-    (passed_up (telling t.numbers c) (λ n. signed t c n n nonce))
+    if nat_lt room block_size then Err ShortWorkingArea
+    else passed_up (telling t.numbers c) (λ n. signed t c n n nonce)

@@ -1,13 +1,13 @@
 // What a dongle refuses: the cases, their numbers, places and finders.
-ghost use Rattle.std.specs.Prelude.{◌≡◌};
+ghost use Rattle.std.specs.Prelude.{◌≡◌, Some};
 ghost use Rattle.dongle.specs.declared.fault.DongleFault.TheVariants.{Bank};
-ghost use Rattle.dongle.specs.Faults.{number_of, place_of, finder_of};
+ghost use Rattle.dongle.specs.Faults.{number_of, place_of, finder_of, shown_of};
 
 use bank::BankFault;
 use std::fmt;
 
 /// Why a dongle did not do what it was asked.
-#[derive(Clone, Copy)]
+#[derive(Clone, Copy, Debug, PartialEq, Eq)]
 pub enum DongleFault {
     /// The working area has fewer than 64 bytes.
     ShortWorkingArea,
@@ -56,6 +56,8 @@ impl From<BankFault> for DongleFault {
 }
 
 impl fmt::Display for DongleFault {
+    ghost output = { λ fault. Some (shown_of fault) };
+
     fn fmt<W: fmt::Write>(&self, f: &mut fmt::Formatter<W>) -> fmt::Result {
         let number = self.number();
         let finder = self.finder();

@@ -2,45 +2,41 @@
 ghost use Rattle.std.specs.Prelude.{◌≡◌, ℕ, length, slice_index};
 ghost use Rattle.bank.specs.Bank.{raising, raised};
 ghost use Rattle.dongle.specs.First.{trinket_over, whole_over};
+ghost use Rattle.dongle.specs.Parts.{bank_in, identity_in, key_in};
 ghost use Rattle.dongle.specs.Trinket.{passed_up};
 
 use crate::fault::DongleFault;
-use crate::sign::{number_of, sign, state};
+use crate::sign::{Signer, number_of, state};
 use crate::trinket::Dongle;
 use bank::Bank;
-use digest::wipe;
-use statement::{SignedStatement, Statement};
+use digest::{WORKING_SIZE, wipe};
+use statement::SignedStatement;
 
-/// A bank, and the identity and key with which its numbers are signed.
+/// A bank, and the signer of its numbers.
 #[derive(Drop)]
 pub struct FirstDongle<B> {
     bank: B,
-    identity: [u8; 8],
-    key: [u8; 32],
-    ghost sized: { (length identity ≡ 8) × (length key ≡ 32) },
+    signer: Signer,
 }
 
 impl<B: Bank> FirstDongle<B> {
     /// Takes a bank as it stands.
     pub fn new(bank: B, id: [u8; 8], key: [u8; 32]) -> Self
-        ensures answers { (result.bank ≡ bank) × (result.identity ≡ id) × (result.key ≡ key) }
+        ensures bank { bank_in result ≡ bank }
+        ensures identity { identity_in result ≡ id }
+        ensures key { key_in result ≡ key }
     {
         FirstDongle {
             bank,
-            identity: id,
-            key,
+            signer: Signer::new(id, key),
         }
     }
 
     /// Lets the dongle go, and hands its bank back.
     pub fn into_bank(self) -> B
-        ensures answers { result ≡ self.bank }
+        ensures answers { result ≡ bank_in self }
     {
-        let FirstDongle {
-            bank,
-            identity: _,
-            key: _,
-        } = self;
+        let FirstDongle { bank, signer: _ } = self;
         bank
     }
 }
@@ -57,12 +53,13 @@ fn step<B: Bank>(bank: &mut B, counter: u8, to: u32) -> Result<u32, DongleFault>
 }
 
 impl<B: Bank> Dongle for FirstDongle<B> {
-    ghost model = { λ d. trinket_over d.identity d.key (B.Bank.numbers d.bank) };
+    ghost model = { λ d. trinket_over d.signer.identity d.signer.key (B.Bank.numbers d.bank) };
 
     ghost most = { λ d. B.Bank.bound d.bank };
 
-    ghost whole = { λ d. whole_over d.identity d.key (B.Bank.numbers d.bank) d.sized (B.Bank.sound d.bank).sixteen };
+    ghost whole = { λ d. whole_over d.signer.identity d.signer.key (B.Bank.numbers d.bank) d.signer.identity_bytes d.signer.key_bytes (B.Bank.sound d.bank).sixteen };
 
+    #[tactic(auto, using(crate::proofs::Wipes::wiped_again))]
     fn attest(
         &mut self,
         counter: u8,
@@ -70,31 +67,12 @@ impl<B: Bank> Dongle for FirstDongle<B> {
         matter: [u8; 32],
         working: &mut [u8],
     ) -> Result<SignedStatement, DongleFault> {
-        if working.len() < 64 {
-            wipe(working);
+        wipe(working);
+        if working.len() < WORKING_SIZE {
             return Err(DongleFault::ShortWorkingArea);
         }
-        match step(&mut self.bank, counter, to) {
-            Ok(old) => {
-                let identity = self.identity;
-                let key = self.key;
-                Ok(sign(
-                    key,
-                    Statement {
-                        identity,
-                        counter,
-                        old,
-                        new: to,
-                        matter,
-                    },
-                    working,
-                ))
-            }
-            Err(fault) => {
-                wipe(working);
-                Err(fault)
-            }
-        }
+        let old = step(&mut self.bank, counter, to)?;
+        Ok(self.signer.sign(counter, old, to, matter, working))
     }
 
     fn status(
@@ -103,13 +81,11 @@ impl<B: Bank> Dongle for FirstDongle<B> {
         nonce: [u8; 32],
         working: &mut [u8],
     ) -> Result<SignedStatement, DongleFault> {
-        let identity = self.identity;
-        let key = self.key;
-        state(&self.bank, identity, key, counter, nonce, working)
+        state(&self.bank, &self.signer, counter, nonce, working)
     }
 
     fn identity(&self) -> [u8; 8] {
-        self.identity
+        self.signer.identity()
     }
 
     fn limit(&self) -> u32 {

@@ -4,14 +4,13 @@
 mod fault;
 mod first;
 mod laws;
-mod recent;
 mod second;
 mod sign;
 mod trinket;
 
 pub use fault::DongleFault;
 pub use first::FirstDongle;
-pub use laws::presses_keep_their_word;
+pub use laws::counters_are_monotonic_without_equivocation;
 pub use second::SecondDongle;
 pub use trinket::Dongle;
 

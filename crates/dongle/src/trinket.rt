@@ -43,7 +43,8 @@ pub trait Dongle {
     /// The number that no counter exceeds.
     fn limit(&self) -> u32
         ensures answers { result ≡ most self.now }
-        ensures within { ((c : ℕ) → c < 16 → stands (model self.now) c ≤ result) × (result ≤ 4000000000) };
+        ensures within { (c : ℕ) → c < 16 → stands (model self.now) c ≤ result }
+        ensures highest { result ≤ 4000000000 };
 
     /// A counter's number, unsigned.
     fn value(&self, counter: u8) -> Result<u32, DongleFault>

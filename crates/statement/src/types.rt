@@ -9,6 +9,7 @@ pub const STATEMENT_SIZE: usize = 49;
 pub const SIGNED_STATEMENT_SIZE: usize = 81;
 
 /// A counter of the dongle called `identity` went from `old` to `new`, or stands there where the two are equal.
+#[derive(Default)]
 #[derive(Clone, Copy, Debug, PartialEq, Eq)]
 pub struct Statement {
     pub identity: [u8; 8],
@@ -19,6 +20,7 @@ pub struct Statement {
 }
 
 /// A statement, and the tag over its bytes by the dongle's key.
+#[derive(Default)]
 #[derive(Clone, Copy, Debug, Eq, PartialEq)]
 pub struct SignedStatement {
     pub statement: Statement,
