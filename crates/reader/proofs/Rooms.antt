@@ -3,8 +3,7 @@ use Rattle.std.proofs.Common.{◌≡◌, ℕ, ◌<◌, ◌≤◌, List, ◌++◌
 use Rattle.std.proofs.lemmas.Bool.Decides.{nat_tests}
 use Rattle.digest.specs.Wiped.{wiped}
 use Rattle.reader.specs.declared.types.Question.{Question}
-use Rattle.reader.specs.Evidence.{working_size}
-use Rattle.reader.specs.Verdict.{decided_on, verdict}
+use Rattle.reader.specs.Verdict.{working_size, decided_on, verdict}
 
 pub wiped_front :
     (area : List ℕ) → working_size ≤ length area → wiped area ≡ replicate working_size 0 ++ drop working_size area

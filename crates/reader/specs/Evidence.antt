@@ -5,6 +5,7 @@ use Rattle.statement.specs.declared.types.SignedStatement.{SignedStatement}
 use Rattle.statement.specs.Layout.{decoded}
 use Rattle.notice.specs.declared.answer.Kind.{Kind}
 use Rattle.notice.specs.declared.answer.Kind.TheVariants as kind
+use Rattle.notice.specs.Limits.{signed_size, previous_size, answer_head}
 use Rattle.notice.specs.Answer.{head_length}
 use Rattle.reader.specs.declared.evidence.Evidence.{Evidence}
 use Rattle.reader.specs.declared.evidence.Evidence.TheVariants.{Found, Skipped, Forgotten, NotYet, End, EndOfEmpty}
@@ -12,29 +13,20 @@ use Rattle.reader.specs.declared.evidence.Evidence.TheVariants.{Found, Skipped, 
 abbrev pub statement_size : ℕ
 statement_size = 49
 
-abbrev pub digest_size : ℕ
-digest_size = 32
-
-abbrev pub signed_size : ℕ
-signed_size = 81
-
-abbrev pub answer_head : ℕ
-answer_head = 3
-
-abbrev pub working_size : ℕ
-working_size = 64
+abbrev pub tag_size : ℕ
+tag_size = 32
 
 -- the statement of that place among so many, with its tag: the statements come first, then their tags in the same order
 abbrev pub signed_in : ℕ → ℕ → List ℕ → SignedStatement
 signed_in count place bytes =
     record {
       statement = decoded (take statement_size (drop (statement_size * place) bytes));
-      tag = take digest_size (drop (statement_size * count + digest_size * place) bytes);
+      tag = take tag_size (drop (statement_size * count + tag_size * place) bytes);
     }
 
 -- the previous digest, behind so many statements with their tags
 abbrev pub previous_in : ℕ → List ℕ → List ℕ
-previous_in count bytes = take digest_size (drop (signed_size * count) bytes)
+previous_in count bytes = take previous_size (drop (signed_size * count) bytes)
 
 -- one statement, or a status and an advance; and the previous digest where there is a text
 abbrev pub evidence_in : Kind → List ℕ → Evidence

@@ -3,7 +3,7 @@ use Rattle.std.specs.Prelude.{ℕ, Bool, if◌then◌else◌, ◌&&◌, List, le
 use Rattle.std.specs.Option.{ok_or}
 use Rattle.notice.specs.declared.answer.Kind.{Kind}
 use Rattle.notice.specs.declared.answer.Kind.TheVariants as kind
-use Rattle.notice.specs.Limits.{text_limit}
+use Rattle.notice.specs.Limits.{text_limit, answer_head}
 use Rattle.notice.specs.Answer.{number_of_kind, kind_of, statements_of, has_text, answer_length, head_length}
 use Rattle.reader.specs.declared.types.Asked.{Asked}
 use Rattle.reader.specs.declared.types.Asked.TheVariants as asked
@@ -13,7 +13,7 @@ use Rattle.reader.specs.declared.fault.ReaderFault.{ReaderFault}
 use Rattle.reader.specs.declared.fault.ReaderFault.TheVariants.{ShortWorkingArea, WrongLength, WrongForm}
 use Rattle.reader.specs.declared.evidence.Evidence.{Evidence}
 use Rattle.reader.specs.declared.evidence.Evidence.TheVariants.{Found, Skipped, Forgotten, NotYet, End, EndOfEmpty}
-use Rattle.reader.specs.Evidence.{answer_head, working_size, evidence_in, text_in}
+use Rattle.reader.specs.Evidence.{evidence_in, text_in}
 use Rattle.reader.specs.Rules.{◌>>=◌, demanded, tags, origins, nonces, numbers, digests}
 
 -- kinds 1 to 4 answer for a position, 5 and 6 for the end
@@ -80,6 +80,10 @@ abbrev pub decided_on : List ℕ → List ℕ → Question → List ℕ → Resu
 decided_on identity key question answer = do
   kind ← kind_in question.asked answer
   decided_by_kind identity key question (drop answer_head answer) kind
+
+-- tags are made in the first bytes of a working area
+abbrev pub working_size : ℕ
+working_size = 64
 
 -- the verdict of a reader with a working area of that room
 unfoldable pub verdict : List ℕ → List ℕ → Question → ℕ → List ℕ → Result Verdict ReaderFault

@@ -9,7 +9,7 @@ use crate::fault::ReaderFault;
 use crate::layout::lay_out;
 use crate::rules::{WORKING_SIZE, check_digests, check_nonces, check_numbers};
 use crate::types::{Challenge, Question, Reader, Verdict};
-use notice::{ANSWER_HEAD, Kind};
+use notice::{ANSWER_HEAD, AnswerHead, Kind};
 
 fn with_no_text(kind: Kind, position: u32, high: u32) -> Verdict
     ensures answers { result ≡ verdict_with kind position high 0 0 }
@@ -97,7 +97,12 @@ impl Reader {
         let [number, count, size, rest @ ..] = answer else {
             return Err(ReaderFault::WrongLength);
         };
-        let kind = lay_out(question.asked, *number, *count, *size, answer.len())?;
+        let head = AnswerHead {
+            number: *number,
+            count: *count,
+            size: *size,
+        };
+        let kind = lay_out(question.asked, head, answer.len())?;
         self.decide_body(question, &Body { kind, rest }, block)
     }
 

@@ -1,19 +1,20 @@
 // The signed statements of an answer, by its kind, read from its bytes.
 ghost use Rattle.std.specs.Prelude.{◌≡◌, ◌+◌, ◌*◌, ◌-◌, ◌<◌, ◌≤◌, length, take, drop};
 ghost use Rattle.std.specs.Option.{option_copied};
-ghost use Rattle.notice.specs.Limits.{text_limit};
+ghost use Rattle.notice.specs.Limits.{signed_size, previous_size, answer_head, text_limit};
 ghost use Rattle.notice.specs.Answer.{head_length};
-ghost use Rattle.reader.specs.Evidence.{signed_size, digest_size, answer_head, signed_in, previous_in, evidence_in, text_in, first_of, second_of, status_of};
+ghost use Rattle.reader.specs.Evidence.{signed_in, previous_in, evidence_in, text_in, first_of, second_of, status_of};
 
-use notice::Kind;
+use notice::{Kind, PREVIOUS_SIZE};
 use statement::{SignedStatement, Statement};
 use std::marker::Model;
 
-pub const STATEMENT_SIZE: usize = 49;
+const STATEMENT_SIZE: usize = 49;
 
-pub const SIGNED_STATEMENT_SIZE: usize = 81;
+const SIGNED_STATEMENT_SIZE: usize = 81;
 
-pub const DIGEST_SIZE: usize = 32;
+// The bytes of a tag.
+const TAG_SIZE: usize = 32;
 
 // Each kind with the statements of its row; where a text follows, the previous digest too.
 #[derive(Clone, Copy)]
@@ -99,13 +100,13 @@ fn signed(bytes: &[u8], count: usize, place: usize) -> SignedStatement
 {
     SignedStatement {
         statement: Statement::decode(&part::<STATEMENT_SIZE>(bytes, STATEMENT_SIZE * place)),
-        tag: part(bytes, STATEMENT_SIZE * count + DIGEST_SIZE * place),
+        tag: part(bytes, STATEMENT_SIZE * count + TAG_SIZE * place),
     }
 }
 
 // The previous digest, behind so many statements with their tags.
-fn previous(bytes: &[u8], count: usize) -> [u8; 32]
-    requires long { signed_size * count + digest_size ≤ length bytes.now }
+fn previous(bytes: &[u8], count: usize) -> [u8; PREVIOUS_SIZE]
+    requires long { signed_size * count + previous_size ≤ length bytes.now }
     ensures answers { result ≡ previous_in count bytes.now }
 {
     part(bytes, SIGNED_STATEMENT_SIZE * count)
@@ -156,7 +157,7 @@ pub(crate) fn text_start(kind: Kind) -> usize
 {
     let signed = SIGNED_STATEMENT_SIZE * usize::from(kind.statements());
     if kind.has_text() {
-        signed + DIGEST_SIZE
+        signed + PREVIOUS_SIZE
     } else {
         signed
     }

@@ -5,7 +5,7 @@ ghost use Rattle.reader.specs.Verdict.{answers_to, right_size, right_form, laid_
 
 use crate::fault::ReaderFault;
 use crate::types::Asked;
-use notice::{Kind, TEXT_LIMIT, answer_length};
+use notice::{AnswerHead, Kind, TEXT_LIMIT};
 
 impl Asked {
     // The position asked for. An end has none, and its 0 is never one, since positions begin at 1: no rule of an
@@ -46,30 +46,26 @@ fn is_right_size(kind: Kind, size: u8) -> bool
     }
 }
 
-fn is_right_form(asked: Asked, kind: Kind, count: u8, size: u8) -> bool
-    ensures answers { result ≡ right_form asked kind count size }
+fn is_right_form(asked: Asked, kind: Kind, head: AnswerHead) -> bool
+    ensures answers { result ≡ right_form asked kind head.count head.size }
 {
-    asked.is_answered_by(kind) && count == kind.statements() && is_right_size(kind, size)
+    asked.is_answered_by(kind)
+        && head.count == kind.statements()
+        && is_right_size(kind, head.size)
 }
 
-// The kind of an answer of a length that begins with these three bytes.
+// The kind of an answer of a length that begins with this head.
 pub(crate) fn lay_out(
     asked: Asked,
-    number: u8,
-    count: u8,
-    size: u8,
+    head: AnswerHead,
     length: usize,
 ) -> Result<Kind, ReaderFault>
-    ensures answers { result ≡ laid_out asked number count size length }
+    ensures answers { result ≡ laid_out asked head.number head.count head.size length }
 {
-    demand(
-        length == answer_length(number, count, size),
-        ReaderFault::WrongLength,
-    )?;
-    let kind = Kind::of(number).ok_or(ReaderFault::WrongForm)?;
-    demand(
-        is_right_form(asked, kind, count, size),
-        ReaderFault::WrongForm,
-    )?;
+    demand(length == head.length(), ReaderFault::WrongLength)?;
+    let Ok(kind) = Kind::try_from(head.number) else {
+        return Err(ReaderFault::WrongForm);
+    };
+    demand(is_right_form(asked, kind, head), ReaderFault::WrongForm)?;
     Ok(kind)
 }

@@ -13,7 +13,7 @@ use crate::fault::ReaderFault;
 use crate::layout::demand;
 use crate::types::Reader;
 use digest::{digest, tag};
-use notice::{INPUT_LIMIT, write_input};
+use notice::{INPUT_LIMIT, PREVIOUS_SIZE, Span, write_input};
 use statement::{SignedStatement, Statement};
 
 // The bytes of a working area that a tag is made in.
@@ -183,25 +183,31 @@ pub(crate) fn check_numbers(position: u32, evidence: &Evidence) -> Result<(), Re
     demand(shown, ReaderFault::WrongNumbers(0))
 }
 
-// The digest of the queue, the advance's numbers, the previous digest and the text.
-fn matter_of(queue: u8, old: u32, new: u32, previous: &[u8; 32], text: &Text) -> [u8; 32]
-    ensures answers { result ≡ sha256 (digest_input queue old new previous.now text.now) }
+// The digest of the span, the previous digest and the text.
+fn matter_of(span: &Span, previous: &[u8; PREVIOUS_SIZE], text: &Text) -> [u8; 32]
+    ensures answers { result ≡ sha256 (digest_input span.now.lane span.now.old span.now.new previous.now text.now) }
 {
     let mut input = [0; INPUT_LIMIT];
-    let size = write_input(queue, old, new, previous, text.as_bytes(), &mut input).unwrap();
+    let size = write_input(span, previous, text.as_bytes(), &mut input).unwrap();
     digest(&input[..size]).unwrap()
 }
 
 fn check_digest(
     queue: u8,
     advance: &Statement,
-    previous: &[u8; 32],
+    previous: &[u8; PREVIOUS_SIZE],
     text: &Text,
     place: u8,
 ) -> Result<(), ReaderFault>
     ensures answers { result ≡ demanded (digest_right queue advance.now previous.now text.now) (WrongDigest place) }
 {
-    let right = matter_of(queue, advance.old, advance.new, previous, text);
+    let Statement { old, new, .. } = *advance;
+    let span = Span {
+        lane: queue,
+        old,
+        new,
+    };
+    let right = matter_of(&span, previous, text);
     demand(advance.matter == right, ReaderFault::WrongDigest(place))
 }
 
