@@ -2,19 +2,17 @@
 -- first three.
 use Rattle.std.specs.Prelude.{ℕ, ◌+◌, ◌-◌, ◌*◌, List, take, drop, Some, None, Option}
 use Rattle.statement.specs.declared.types.SignedStatement.{SignedStatement}
-use Rattle.statement.specs.Layout.{decoded}
+use Rattle.statement.specs.Layout.{statement_size, signed_statement_size, decoded}
 use Rattle.notice.specs.declared.answer.Kind.{Kind}
 use Rattle.notice.specs.declared.answer.Kind.TheVariants as kind
-use Rattle.notice.specs.Limits.{signed_size, previous_size, answer_head}
+use Rattle.notice.specs.Limits.{previous_size, answer_head}
 use Rattle.notice.specs.Answer.{head_length}
 use Rattle.reader.specs.declared.evidence.Evidence.{Evidence}
 use Rattle.reader.specs.declared.evidence.Evidence.TheVariants.{Found, Skipped, Forgotten, NotYet, End, EndOfEmpty}
 
-abbrev pub statement_size : ℕ
-statement_size = 49
-
+-- a tag behind its statement
 abbrev pub tag_size : ℕ
-tag_size = 32
+tag_size = signed_statement_size - statement_size
 
 -- the statement of that place among so many, with its tag: the statements come first, then their tags in the same order
 abbrev pub signed_in : ℕ → ℕ → List ℕ → SignedStatement
@@ -26,7 +24,7 @@ signed_in count place bytes =
 
 -- the previous digest, behind so many statements with their tags
 abbrev pub previous_in : ℕ → List ℕ → List ℕ
-previous_in count bytes = take previous_size (drop (signed_size * count) bytes)
+previous_in count bytes = take previous_size (drop (signed_statement_size * count) bytes)
 
 -- one statement, or a status and an advance; and the previous digest where there is a text
 abbrev pub evidence_in : Kind → List ℕ → Evidence

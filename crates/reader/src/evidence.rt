@@ -1,20 +1,17 @@
 // The signed statements of an answer, by its kind, read from its bytes.
 ghost use Rattle.std.specs.Prelude.{◌≡◌, ◌+◌, ◌*◌, ◌-◌, ◌<◌, ◌≤◌, length, take, drop};
 ghost use Rattle.std.specs.Option.{option_copied};
-ghost use Rattle.notice.specs.Limits.{signed_size, previous_size, answer_head, text_limit};
+ghost use Rattle.statement.specs.Layout.{signed_statement_size};
+ghost use Rattle.notice.specs.Limits.{previous_size, answer_head, text_limit};
 ghost use Rattle.notice.specs.Answer.{head_length};
 ghost use Rattle.reader.specs.Evidence.{signed_in, previous_in, evidence_in, text_in, first_of, second_of, status_of};
 
 use notice::{Kind, PREVIOUS_SIZE};
-use statement::{SignedStatement, Statement};
+use statement::{SIGNED_STATEMENT_SIZE, STATEMENT_SIZE, SignedStatement, Statement};
 use std::marker::Model;
 
-const STATEMENT_SIZE: usize = 49;
-
-const SIGNED_STATEMENT_SIZE: usize = 81;
-
 // The bytes of a tag.
-const TAG_SIZE: usize = 32;
+const TAG_SIZE: usize = SIGNED_STATEMENT_SIZE - STATEMENT_SIZE;
 
 // Each kind with the statements of its row; where a text follows, the previous digest too.
 #[derive(Clone, Copy)]
@@ -94,19 +91,19 @@ fn part<const N: usize>(bytes: &[u8], at: usize) -> [u8; N]
 
 // The statement of that place among so many, with its tag.
 fn signed(bytes: &[u8], count: usize, place: usize) -> SignedStatement
-    requires long { signed_size * count ≤ length bytes.now }
+    requires long { signed_statement_size * count ≤ length bytes.now }
     requires within { place < count }
     ensures answers { result ≡ signed_in count place bytes.now }
 {
     SignedStatement {
-        statement: Statement::decode(&part::<STATEMENT_SIZE>(bytes, STATEMENT_SIZE * place)),
+        statement: Statement::from(&part(bytes, STATEMENT_SIZE * place)),
         tag: part(bytes, STATEMENT_SIZE * count + TAG_SIZE * place),
     }
 }
 
 // The previous digest, behind so many statements with their tags.
 fn previous(bytes: &[u8], count: usize) -> [u8; PREVIOUS_SIZE]
-    requires long { signed_size * count + previous_size ≤ length bytes.now }
+    requires long { signed_statement_size * count + previous_size ≤ length bytes.now }
     ensures answers { result ≡ previous_in count bytes.now }
 {
     part(bytes, SIGNED_STATEMENT_SIZE * count)

@@ -49,17 +49,11 @@ fn is_right_size(kind: Kind, size: u8) -> bool
 fn is_right_form(asked: Asked, kind: Kind, head: AnswerHead) -> bool
     ensures answers { result ≡ right_form asked kind head.count head.size }
 {
-    asked.is_answered_by(kind)
-        && head.count == kind.statements()
-        && is_right_size(kind, head.size)
+    asked.is_answered_by(kind) && head.count == kind.statements() && is_right_size(kind, head.size)
 }
 
 // The kind of an answer of a length that begins with this head.
-pub(crate) fn lay_out(
-    asked: Asked,
-    head: AnswerHead,
-    length: usize,
-) -> Result<Kind, ReaderFault>
+pub(crate) fn lay_out(asked: Asked, head: AnswerHead, length: usize) -> Result<Kind, ReaderFault>
     ensures answers { result ≡ laid_out asked head.number head.count head.size length }
 {
     demand(length == head.length(), ReaderFault::WrongLength)?;

@@ -14,7 +14,7 @@ use crate::layout::demand;
 use crate::types::Reader;
 use digest::{digest, tag};
 use notice::{INPUT_LIMIT, PREVIOUS_SIZE, Span, write_input};
-use statement::{SignedStatement, Statement};
+use statement::{STATEMENT_SIZE, SignedStatement, Statement};
 
 // The bytes of a working area that a tag is made in.
 pub(crate) const WORKING_SIZE: usize = 64;
@@ -23,7 +23,8 @@ impl Reader {
     fn tag_of(&self, statement: &Statement, block: &mut [u8; WORKING_SIZE]) -> [u8; 32]
         ensures answers { result ≡ hmac self.now.key (encoded statement.now) }
     {
-        tag(&self.key, &statement.encode(), block).unwrap()
+        let bytes: [u8; STATEMENT_SIZE] = (*statement).into();
+        tag(&self.key, &bytes, block).unwrap()
     }
 
     #[tactic(auto, using(crate::proofs::Sames::same_where_all))]

@@ -4,12 +4,12 @@ use Rattle.std.proofs.lemmas.List.{append-nil, take-append-drop, take_at, drop_a
 use Rattle.std.proofs.lemmas.Bool.{cases_lt}
 use Rattle.statement.specs.declared.types.Statement.{Statement}
 use Rattle.statement.specs.declared.types.SignedStatement.{SignedStatement}
-use Rattle.statement.specs.Layout.{encoded, decoded, SizedSigned}
+use Rattle.statement.specs.Layout.{statement_size, encoded, decoded, SizedSigned}
 use Rattle.statement.proofs.Layouts.{length-encoded, decoded-encoded, encoded-decoded}
 use Rattle.notice.specs.declared.answer.Kind.{Kind}
 use Rattle.notice.specs.Limits.{answer_head, signed_size}
 use Rattle.notice.specs.Answer.{number_of_kind, has_text, answer_bytes}
-use Rattle.reader.specs.Evidence.{statement_size, tag_size, signed_in}
+use Rattle.reader.specs.Evidence.{tag_size, signed_in}
 
 -- every byte is below 256
 abbrev pub Below : List ℕ → Type 0
