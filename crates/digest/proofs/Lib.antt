@@ -1,7 +1,7 @@
 pub mod Blocks
 pub mod Listed
-pub mod Padding
 pub mod Sizes
 pub mod Tags
-pub mod Window
 pub mod Wiped
+pub mod Schedule
+pub mod Padding

@@ -1,23 +1,30 @@
 -- A list of a known length is the list of what stands at its places.
-use Rattle.std.proofs.Common.{◌≡◌, ℕ, ◌+◌, ◌*◌, ◌≤◌, ◌++◌, map, length, get_or, take, drop, sym, refl, ap, ◌∙◌, add-zero, length-append, length-take-le, get_or-drop, take_at}
+use Rattle.std.proofs.Common.{◌≡◌, ℕ, zero, suc, ◌+◌, ◌*◌, ◌<◌, ◌≤◌, [], ◌∷◌, map, length, get_or, take, drop, refl, ap, ◌∙◌, arith, length-drop, drop-drop, w32}
+use Rattle.std.specs.Int.{from_be_bytes}
+use Rattle.std.specs.Simd.{first_chunks}
 use Rattle.std.specs.List.{range_with_len}
 use Rattle.std.proofs.lemmas.List.FromFn.{fill_by_all}
-use Rattle.std.proofs.lemmas.List.{append_assoc}
-use Rattle.digest.specs.Areas.{placed}
 use Rattle.digest.specs.Bytes.{Bytes, number4}
 use Rattle.digest.specs.Words.{Words}
 
 pub listed : (n : ℕ) (x : Words) → length x ≡ n → x ≡ map (λ i. get_or x i 0) (range_with_len 0 n)
 listed n x e = fill_by_all (λ i. get_or x i 0) x n 0 e (λ k h. refl)
 
--- the four bytes that a word is read from
-pub number4-drop : (n : ℕ) (bs : Bytes) → number4 (drop n bs)
-    ≡ get_or bs n 0 * 16777216 + get_or bs (n + 1) 0 * 65536 + get_or bs (n + 2) 0 * 256 + get_or bs (n + 3) 0
-number4-drop n bs = simp (get_or-drop, add-zero)
+-- the k-th chunk of four bytes
+get_or-chunks : (n k : ℕ) (bs : Bytes) → k < n → get_or (first_chunks 4 n bs) k [] ≡ take 4 (drop (4 * k) bs)
+get_or-chunks zero k bs lt = absurd (omega arith)
+get_or-chunks (suc n) zero bs lt = refl
+get_or-chunks (suc n) (suc k) bs lt =
+    let at : 4 + 4 * k ≡ 4 * suc k = omega arith in
+    get_or-chunks n k (drop 4 bs) (omega arith) ∙ ap (take 4) (drop-drop (4 * k) 4 bs ∙ ap (λ m. drop m bs) at)
 
--- the front of an area up to the end of what was written
-pub take-placed : (at : ℕ) (bytes area : Bytes) → at ≤ length area → take (at + length bytes) (placed at bytes area) ≡ take at area ++ bytes
-take-placed at bytes area le =
-    let l : length (take at area ++ bytes) ≡ at + length bytes = length-append (take at area) bytes ∙ ap (λ n. n + length bytes) (length-take-le at area le) in
-    ap (take (at + length bytes)) (sym (append_assoc (take at area) bytes (drop (at + length bytes) area)))
-    ∙ take_at (take at area ++ bytes) (drop (at + length bytes) area) (at + length bytes) l
+-- the word in the first four bytes
+word_read : (bs : Bytes) → 4 ≤ length bs → from_be_bytes w32 (take 4 bs) ≡ number4 bs
+word_read (a ∷ b ∷ c ∷ d ∷ bs) le = omega arith
+word_read _ le = absurd (omega arith)
+
+-- the k-th word of a block
+pub word_at : (block : Bytes) (k : ℕ) → length block ≡ 64 → k < 16 → from_be_bytes w32 (get_or (first_chunks 4 16 block) k []) ≡ number4 (drop (4 * k) block)
+word_at block k e lt =
+    let four : 4 ≤ length (drop (4 * k) block) = simp length-drop (omega arith) in
+    ap (from_be_bytes w32) (get_or-chunks 16 k block lt) ∙ word_read (drop (4 * k) block) four

@@ -15,9 +15,7 @@ place_of KeyTooLong = 1
 place_of ShortWorkingArea = 0
 
 abbrev pub finder_of : DigestFault → List ℕ
-finder_of MessageTooLong = codes "digest"
-finder_of KeyTooLong = codes "digest"
-finder_of ShortWorkingArea = codes "digest"
+finder_of fault = codes "digest"
 
 -- what is printed
 abbrev pub shown_of : DigestFault → List ℕ

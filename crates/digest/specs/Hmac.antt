@@ -1,15 +1,16 @@
 -- HMAC with SHA-256, as RFC 2104 defines it.
-use Rattle.std.specs.Prelude.{ℕ, ◌-◌, cond, ◌++◌, map, length, replicate, bit_xor, nat_lt}
+use Rattle.std.specs.Prelude.{ℕ, ◌-◌, if◌then◌else◌, ◌++◌, map, length, replicate, bit_xor, nat_lt}
 use Rattle.digest.specs.Bytes.{Bytes}
+use Rattle.digest.specs.Sizes.{block_size}
 use Rattle.digest.specs.Sha256.{sha256}
 
--- a key longer than a block of 64 bytes is replaced by its digest
+-- a key longer than a block is replaced by its digest
 abbrev pub short_key : Bytes → Bytes
-short_key key = cond (nat_lt 64 (length key)) (sha256 key) key
+short_key key = if nat_lt block_size (length key) then sha256 key else key
 
--- a key of at most 64 bytes with zeros after it, up to a block
+-- a key of at most a block with zeros after it, up to a block
 unfoldable pub key_block : Bytes → Bytes
-key_block key = key ++ replicate (64 - length key) 0
+key_block key = key ++ replicate (block_size - length key) 0
 
 -- a block with every byte changed by a mask
 unfoldable pub masked : ℕ → Bytes → Bytes

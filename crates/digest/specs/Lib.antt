@@ -1,4 +1,5 @@
 pub mod Bytes
+pub mod Sizes
 pub mod Words
 pub mod Constants
 pub mod Sha256
@@ -6,6 +7,4 @@ pub mod Hmac
 pub mod Wiped
 pub mod Answers
 pub mod Faults
-pub mod Window
-pub mod Areas
 pub mod Examples

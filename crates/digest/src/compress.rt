@@ -1,12 +1,16 @@
-// The compression of one block of 64 bytes into a hash value of eight words.
-ghost use Rattle.std.specs.Prelude.{◌≡◌, ◌<◌, ◌≤◌, length, slice_index};
+// The compression of one block into a hash value of eight words.
+ghost use Rattle.std.specs.Prelude.{◌≡◌, fold};
+ghost use Rattle.std.specs.List.{zip};
 ghost use Rattle.digest.specs.Constants.{K};
-ghost use Rattle.digest.specs.Sha256.{round, words, summed, compressed};
-ghost use Rattle.digest.specs.Window.{slid, stepped, steps};
+ghost use Rattle.digest.specs.Sha256.{round, rounds, words, schedule, summed, compressed};
 
+use crate::sha256::BLOCK_SIZE;
 use crate::words::{big_sigma0, big_sigma1, ch, maj, small_sigma0, small_sigma1};
+use std::array;
 
-const ROUND_CONSTANTS: [u32; 64] = [
+const ROUNDS: usize = 64;
+
+const ROUND_CONSTANTS: [u32; ROUNDS] = [
     0x428a_2f98,
     0x7137_4491,
     0xb5c0_fbcf,
@@ -73,160 +77,65 @@ const ROUND_CONSTANTS: [u32; 64] = [
     0xc671_78f2,
 ];
 
-// The working variables a to h before a round, and the sixteen words of the schedule from that round on.
-#[derive(Clone, Copy)]
-struct Stage {
-    variables: [u32; 8],
-    window: [u32; 16],
-}
-
-fn constant(t: usize) -> u32
-    requires { t < 64 }
-    ensures answers { result ≡ slice_index K t }
-{
-    ROUND_CONSTANTS[t]
-}
-
-// Round t on the working variables with the schedule's word w.
-fn one_round(v: [u32; 8], t: usize, w: u32) -> [u32; 8]
-    requires { t < 64 }
-    ensures answers { result ≡ round (slice_index K t) w v }
+// One round on the working variables a to h, with the round's constant and the schedule's word.
+fn one_round(v: [u32; 8], step: (&u32, &u32)) -> [u32; 8]
+    ensures answers { result ≡ round step.entry.0.now step.entry.1.now v }
 {
     let [a, b, c, d, e, f, g, h] = v;
+    let (constant, word) = step;
     let t1 = h
         .wrapping_add(big_sigma1(e))
         .wrapping_add(ch(e, f, g))
-        .wrapping_add(constant(t))
-        .wrapping_add(w);
+        .wrapping_add(*constant)
+        .wrapping_add(*word);
     let t2 = big_sigma0(a).wrapping_add(maj(a, b, c));
     [t1.wrapping_add(t2), a, b, c, d.wrapping_add(t1), e, f, g]
 }
 
-// The first word leaves, and the schedule's next word is made.
-fn slide(x: [u32; 16]) -> [u32; 16]
-    ensures answers { result ≡ slid x }
+// The message schedule: a block's words, then each word from the 2nd, 7th, 15th and 16th before it.
+fn message_schedule(block: [u32; 16]) -> [u32; ROUNDS]
+    ensures answers { result ≡ schedule block }
 {
-    let next = small_sigma1(x[14])
-        .wrapping_add(x[9])
-        .wrapping_add(small_sigma0(x[1]))
-        .wrapping_add(x[0]);
-    [
-        x[1], x[2], x[3], x[4], x[5], x[6], x[7], x[8], x[9], x[10], x[11], x[12], x[13], x[14],
-        x[15], next,
-    ]
-}
-
-// One round with the first word of the window.
-fn turn(s: Stage, t: usize) -> Stage
-    requires { t < 64 }
-    ensures answers { result ≡ stepped t s }
-{
-    let Stage { variables, window } = s;
-    Stage {
-        variables: one_round(variables, t, window[0]),
-        window: slide(window),
+    let mut w = [0; ROUNDS];
+    w[..16].copy_from_slice(&block);
+    for t in 16..ROUNDS {
+        w[t] = small_sigma1(w[t - 2])
+            .wrapping_add(w[t - 7])
+            .wrapping_add(small_sigma0(w[t - 15]))
+            .wrapping_add(w[t - 16]);
     }
+    w
 }
 
-// Written out, so that the compiler keeps every word in a register.
-fn sixteen_rounds(s0: Stage, t: usize) -> Stage
-    requires { t ≤ 32 }
-    ensures answers { result ≡ steps 16 t s0 }
+fn all_rounds(value: [u32; 8], schedule: &[u32; ROUNDS]) -> [u32; 8]
+    ensures answers { result ≡ rounds 64 schedule.now value }
 {
-    let s1 = turn(s0, t);
-    let s2 = turn(s1, t + 1);
-    let s3 = turn(s2, t + 2);
-    let s4 = turn(s3, t + 3);
-    let s5 = turn(s4, t + 4);
-    let s6 = turn(s5, t + 5);
-    let s7 = turn(s6, t + 6);
-    let s8 = turn(s7, t + 7);
-    let s9 = turn(s8, t + 8);
-    let s10 = turn(s9, t + 9);
-    let s11 = turn(s10, t + 10);
-    let s12 = turn(s11, t + 11);
-    let s13 = turn(s12, t + 12);
-    let s14 = turn(s13, t + 13);
-    let s15 = turn(s14, t + 14);
-    let s16 = turn(s15, t + 15);
-    s16
-}
-
-// The last sixteen rounds: every word of the schedule is made before them.
-fn closing_rounds(s: Stage) -> [u32; 8]
-    ensures answers { result ≡ (steps 16 48 s).variables }
-{
-    let Stage {
-        variables: v0,
-        window: x,
-    } = s;
-    let v1 = one_round(v0, 48, x[0]);
-    let v2 = one_round(v1, 49, x[1]);
-    let v3 = one_round(v2, 50, x[2]);
-    let v4 = one_round(v3, 51, x[3]);
-    let v5 = one_round(v4, 52, x[4]);
-    let v6 = one_round(v5, 53, x[5]);
-    let v7 = one_round(v6, 54, x[6]);
-    let v8 = one_round(v7, 55, x[7]);
-    let v9 = one_round(v8, 56, x[8]);
-    let v10 = one_round(v9, 57, x[9]);
-    let v11 = one_round(v10, 58, x[10]);
-    let v12 = one_round(v11, 59, x[11]);
-    let v13 = one_round(v12, 60, x[12]);
-    let v14 = one_round(v13, 61, x[13]);
-    let v15 = one_round(v14, 62, x[14]);
-    let v16 = one_round(v15, 63, x[15]);
-    v16
-}
-
-fn all_rounds(s: Stage) -> [u32; 8]
-    ensures answers { result ≡ (steps 64 0 s).variables }
-{
-    let a = sixteen_rounds(s, 0);
-    let b = sixteen_rounds(a, 16);
-    let c = sixteen_rounds(b, 32);
-    closing_rounds(c)
+    ROUND_CONSTANTS.iter().zip(schedule).fold(value, one_round)
 }
 
 fn sum(x: [u32; 8], y: [u32; 8]) -> [u32; 8]
     ensures answers { result ≡ summed x y }
 {
-    [
-        x[0].wrapping_add(y[0]),
-        x[1].wrapping_add(y[1]),
-        x[2].wrapping_add(y[2]),
-        x[3].wrapping_add(y[3]),
-        x[4].wrapping_add(y[4]),
-        x[5].wrapping_add(y[5]),
-        x[6].wrapping_add(y[6]),
-        x[7].wrapping_add(y[7]),
-    ]
+    array::from_fn(|i| x[i].wrapping_add(y[i]))
 }
 
-fn block_words(block: &[u8]) -> [u32; 16]
-    requires { length block.now ≡ 64 }
+// The words of a block, each with its most significant byte first.
+fn block_words(block: &[u8; BLOCK_SIZE]) -> [u32; 16]
     ensures answers { result ≡ words block.now }
 {
-    let mut x = [0; 16];
-    for i in 0..16 {
-        x[i] = u32::from_be_bytes([
-            block[4 * i],
-            block[4 * i + 1],
-            block[4 * i + 2],
-            block[4 * i + 3],
-        ]);
+    let mut words = [0; 16];
+    let (fours, _) = block.as_chunks();
+    for (i, four) in fours.iter().enumerate() {
+        words[i] = u32::from_be_bytes(*four);
     }
-    x
+    words
 }
 
 // The hash value after one more block.
-pub(crate) fn compress(value: [u32; 8], block: &[u8]) -> [u32; 8]
-    requires { length block.now ≡ 64 }
+#[tactic(auto, unfolding(crate::specs::Sha256::compressed))]
+pub(crate) fn compress(value: [u32; 8], block: &[u8; BLOCK_SIZE]) -> [u32; 8]
     ensures answers { result ≡ compressed value (words block.now) }
 {
-    let last = all_rounds(Stage {
-        variables: value,
-        window: block_words(block),
-    });
-    sum(last, value)
+    let schedule = message_schedule(block_words(block));
+    sum(all_rounds(value, &schedule), value)
 }

@@ -1,10 +1,11 @@
-// Why a digest or a tag is refused.
+// What a digest and a tag refuse: the cases, their numbers, places and finder.
 ghost use Rattle.std.specs.Prelude.{◌≡◌, Some};
 ghost use Rattle.digest.specs.Faults.{number_of, place_of, finder_of, shown_of};
 
 use std::fmt;
 
-#[derive(Clone, Copy, PartialEq, Eq, Debug)]
+/// Why a digest or a tag is refused.
+#[derive(Clone, Copy, Debug, PartialEq, Eq)]
 pub enum DigestFault {
     /// The message has more than 65,536 bytes.
     MessageTooLong,
@@ -15,6 +16,7 @@ pub enum DigestFault {
 }
 
 impl DigestFault {
+    /// The number that stands for this fault.
     pub fn number(&self) -> u32
         ensures answers { result ≡ number_of self.now }
     {
@@ -24,6 +26,7 @@ impl DigestFault {
         }
     }
 
+    /// What it is about: 0 the message or the working area, 1 the key.
     pub fn place(&self) -> u32
         ensures answers { result ≡ place_of self.now }
     {
@@ -33,6 +36,7 @@ impl DigestFault {
         }
     }
 
+    /// Who found it.
     pub fn finder(&self) -> &'static str
         ensures answers { result.now ≡ finder_of self.now }
     {

@@ -1,131 +1,116 @@
 // HMAC-SHA-256, with the key block in the caller's working area.
-ghost use Rattle.std.specs.Prelude.{◌≡◌, ◌≤◌, length, replicate};
-ghost use Rattle.digest.specs.Answers.{tagging, limiting};
+ghost use Rattle.std.specs.Prelude.{◌≡◌, ◌≤◌, length, replicate, if◌then◌else◌, nat_lt};
+ghost use Rattle.digest.specs.Answers.{tagging};
 ghost use Rattle.digest.specs.Hmac.{masked, key_block, keyed, short_key, short_hmac};
-ghost use Rattle.digest.specs.Wiped.{wiped};
+ghost use Rattle.digest.specs.Sizes.{block_size};
+ghost use Rattle.digest.specs.Wiped.{wiped, used};
 
-use crate::areas::{clear, clear_front, mask, put};
 use crate::compress::compress;
 use crate::fault::DigestFault;
-use crate::sha256::{INITIAL, LONGEST_MESSAGE, finish, hash};
+use crate::sha256::{BLOCK_SIZE, DIGEST_SIZE, INITIAL, LONGEST_MESSAGE, finish, hash};
+
+/// The bytes of a working area that are used and wiped: its first 64.
+pub const WORKING_SIZE: usize = BLOCK_SIZE;
 
 const LONGEST_KEY: usize = 65_536;
-
-// The bytes of a block, of the key block and of the part of the working area that is used.
-const BLOCK: usize = 64;
 
 const IPAD: u8 = 0x36;
 
 const OPAD: u8 = 0x5c;
 
-// Holds the key block and zeroes it when it goes.
+// Holds the part of a working area that is used, and zeroes it when it goes.
 struct Wiper<'a> {
-    block: &'a mut [u8],
+    part: &'a mut [u8],
 }
 
 impl Drop for Wiper<'_> {
     fn drop(self)
-        ensures { self.exit.0.now ≡ replicate (length self.entry.block.now) 0 }
+        ensures { self.exit.0.now ≡ replicate (length self.entry.part.now) 0 }
     {
-        clear(self.block);
-        let Wiper { block: _ } = self;
+        self.part.fill(0);
+        let Wiper { part: _ } = self;
     }
 }
 
-// The message is tried before the key.
-fn limits(key: &[u8], message: &[u8]) -> Result<(), DigestFault>
-    ensures answers { result ≡ limiting key.now message.now }
+// A key of at most a block.
+#[derive(Clone, Copy)]
+struct ShortKey<'a> {
+    bytes: &'a [u8],
+    ghost short: { length bytes.now ≤ block_size },
+}
+
+impl ShortKey<'_> {
+    // Fills the block with the key and zeros after it, every byte changed by a mask.
+    fn mask_into(&self, pad: u8, block: &mut [u8; BLOCK_SIZE])
+        ensures area { block.new ≡ masked pad (key_block self.now.bytes.now) }
+    {
+        block.fill(0);
+        block[..self.bytes.len()].copy_from_slice(self.bytes);
+        for byte in block.iter_mut() {
+            *byte ^= pad;
+        }
+    }
+
+    // The digest of the masked key block and a text after it: the inner or the outer one.
+    fn keyed_digest(&self, pad: u8, text: &[u8], block: &mut [u8; BLOCK_SIZE]) -> [u8; DIGEST_SIZE]
+        ensures answers { result ≡ keyed pad self.now.bytes.now text.now }
+    {
+        self.mask_into(pad, block);
+        finish(compress(INITIAL, block), BLOCK_SIZE, text)
+    }
+
+    fn mac(&self, message: &[u8], block: &mut [u8; BLOCK_SIZE]) -> [u8; DIGEST_SIZE]
+        ensures answers { result ≡ short_hmac self.now.bytes.now message.now }
+    {
+        let inner = self.keyed_digest(IPAD, message, block);
+        self.keyed_digest(OPAD, &inner, block)
+    }
+}
+
+// A key longer than a block is replaced by its digest.
+fn mac(key: &[u8], message: &[u8], block: &mut [u8; BLOCK_SIZE]) -> [u8; DIGEST_SIZE]
+    ensures answers { result ≡ short_hmac (short_key key.now) message.now }
 {
+    if key.len() > BLOCK_SIZE {
+        let digest = hash(key);
+        return ShortKey { bytes: &digest }.mac(message, block);
+    }
+    ShortKey { bytes: key }.mac(message, block)
+}
+
+// The bytes of an area that are used and wiped: none of one that is too short.
+fn used_size(room: usize) -> usize
+    ensures answers { result ≡ used room }
+{
+    if room < WORKING_SIZE { 0 } else { WORKING_SIZE }
+}
+
+/// The HMAC-SHA-256 tag of a message. The first 64 bytes of the working area are zero afterwards, refused or not.
+#[tactic(auto, using(crate::proofs::Wiped::wiped_parts), unfolding(crate::specs::Hmac::hmac))]
+pub fn tag(key: &[u8], message: &[u8], working: &mut [u8]) -> Result<[u8; DIGEST_SIZE], DigestFault>
+    ensures answers { result ≡ tagging key.now message.now (length working.old) }
+    ensures working { working.new ≡ wiped working.old }
+{
+    let size = used_size(working.len());
+    let (part, _) = working.split_at_mut(size);
+    let guard = Wiper { part };
     if message.len() > LONGEST_MESSAGE {
         return Err(DigestFault::MessageTooLong);
     }
     if key.len() > LONGEST_KEY {
         return Err(DigestFault::KeyTooLong);
     }
-    Ok(())
-}
-
-fn make_key_block(key: &[u8], block: &mut [u8])
-    requires size { length block.old ≡ 64 }
-    requires short { length key.now ≤ 64 }
-    ensures area { block.new ≡ key_block key.now }
-{
-    clear(block);
-    put(block, 0, key);
-}
-
-fn mask_key_block(key: &[u8], pad: u8, block: &mut [u8])
-    requires size { length block.old ≡ 64 }
-    requires short { length key.now ≤ 64 }
-    ensures area { block.new ≡ masked pad (key_block key.now) }
-{
-    make_key_block(key, block);
-    mask(block, pad);
-}
-
-// The digest of the masked key block and a text after it: the inner or the outer one.
-fn keyed_digest(key: &[u8], pad: u8, text: &[u8], block: &mut [u8]) -> [u8; 32]
-    requires size { length block.old ≡ 64 }
-    requires short { length key.now ≤ 64 }
-    requires fits { length text.now ≤ 65536 }
-    ensures answers { result ≡ keyed pad key.now text.now }
-{
-    mask_key_block(key, pad, block);
-    finish(compress(INITIAL, block), BLOCK, text)
-}
-
-fn short_mac(key: &[u8], message: &[u8], block: &mut [u8]) -> [u8; 32]
-    requires size { length block.old ≡ 64 }
-    requires short { length key.now ≤ 64 }
-    requires fits { length message.now ≤ 65536 }
-    ensures answers { result ≡ short_hmac key.now message.now }
-{
-    let inner = keyed_digest(key, IPAD, message, block);
-    keyed_digest(key, OPAD, &inner, block)
-}
-
-// A key longer than a block is replaced by its digest.
-fn mac(key: &[u8], message: &[u8], block: &mut [u8]) -> [u8; 32]
-    requires size { length block.old ≡ 64 }
-    requires key_fits { length key.now ≤ 65536 }
-    requires message_fits { length message.now ≤ 65536 }
-    ensures answers { result ≡ short_hmac (short_key key.now) message.now }
-{
-    if key.len() > BLOCK {
-        let short = hash(key);
-        return short_mac(&short, message, block);
-    }
-    short_mac(key, message, block)
-}
-
-// The guard zeroes the block on every way out, refusals among them.
-fn guarded(key: &[u8], message: &[u8], block: &mut [u8]) -> Result<[u8; 32], DigestFault>
-    requires { length block.old ≡ 64 }
-    ensures answers { result ≡ tagging key.now message.now 64 }
-    ensures area { block.new ≡ replicate 64 0 }
-{
-    let guard = Wiper { block };
-    limits(key, message)?;
-    Ok(mac(key, message, guard.block))
-}
-
-/// The HMAC-SHA-256 tag of a message. The first 64 bytes of the working area are zero afterwards, refused or not.
-pub fn tag(key: &[u8], message: &[u8], working: &mut [u8]) -> Result<[u8; 32], DigestFault>
-    ensures answers { result ≡ tagging key.now message.now (length working.old) }
-    ensures working { working.new ≡ wiped working.old }
-{
-    if working.len() < BLOCK {
-        limits(key, message)?;
+    let Some(block) = guard.part.as_mut_array() else {
         return Err(DigestFault::ShortWorkingArea);
-    }
-    guarded(key, message, &mut working[0..BLOCK])
+    };
+    Ok(mac(key, message, block))
 }
 
+#[tactic(auto, using(crate::proofs::Wiped::wiped_parts))]
 /// Leaves a working area as `tag` would, for calls that make no tag.
 pub fn wipe(working: &mut [u8])
     ensures working { working.new ≡ wiped working.old }
 {
-    if working.len() >= BLOCK {
-        clear_front(working);
-    }
+    let size = used_size(working.len());
+    working[..size].fill(0);
 }

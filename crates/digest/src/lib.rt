@@ -1,7 +1,6 @@
 // SHA-256 digests and HMAC-SHA-256 tags, made with no heap.
 #![tactic(auto)]
 
-mod areas;
 mod compress;
 mod examples;
 mod fault;
@@ -13,5 +12,5 @@ mod words;
 
 pub use examples::published_examples_hold;
 pub use fault::DigestFault;
-pub use hmac::{tag, wipe};
-pub use sha256::digest;
+pub use hmac::{WORKING_SIZE, tag, wipe};
+pub use sha256::{DIGEST_SIZE, digest};

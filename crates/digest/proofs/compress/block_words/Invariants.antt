@@ -1,6 +1,6 @@
-use Rattle.std.proofs.Common.{◌≡◌, ℕ, ◌*◌, ◌<◌, length, get_or, drop}
-use Rattle.digest.specs.Bytes.{number4}
+use Rattle.std.proofs.Common.{◌≡◌, ℕ, ◌<◌, [], length, get_or, w32}
+use Rattle.std.specs.Int.{from_be_bytes}
 use Rattle.digest.proofs.compress.block_words.Given as goal
 
 abbrev pub invariant-loop-i : goal.invariant-loop-i
-invariant-loop-i l = (length l.x ≡ 16) × ((k : ℕ) → k < l.i → get_or l.x k 0 ≡ number4 (drop (4 * k) l.block))
+invariant-loop-i l = (length l.words ≡ 16) × ((k : ℕ) → k < l.i → get_or l.words k 0 ≡ from_be_bytes w32 (get_or l.fours k []))

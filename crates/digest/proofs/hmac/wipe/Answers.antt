@@ -1,10 +1,11 @@
-use Rattle.std.proofs.Common.{replicate, refl, ◌∙◌}
-use Rattle.digest.proofs.Wiped.{wiped_long, wiped_short}
+use Rattle.std.proofs.Common.{◌≡◌, ℕ, length, take, drop, refl, rules}
+use Rattle.digest.specs.Bytes.{Bytes}
+use Rattle.digest.proofs.Wiped.{wiped_parts}
 use Rattle.digest.proofs.hmac.wipe.Goals as goal
 
-pub returns-then-working-ge-BLOCK : goal.returns-then-working-ge-BLOCK
-returns-then-working-ge-BLOCK c =
-    record { working = c.clear_front.ensures.area ∙ wiped_long c.args.working.now (replicate 64 0) c.if-working-ge-BLOCK.true refl }
-
-pub returns-else-working-ge-BLOCK : goal.returns-else-working-ge-BLOCK
-returns-else-working-ge-BLOCK c = record { working = wiped_short c.args.working.now c.if-working-ge-BLOCK.false }
+pub returns : goal.returns
+returns c =
+    let working : Bytes = c.args.working.now in
+    let n : ℕ = c.used_size-size.result in
+    let size : length (take n working) ≡ n = search rules in
+    record { working = wiped_parts working (take n working) c.fill.new.self (drop n working) n c.used_size-size.ensures.answers size (c.fill.ensures.after (λ y e. e)) refl }
