@@ -1,6 +1,7 @@
 -- The verdict of a reader on an answer: the rules in the order in which they are tried, and what an accepted answer says.
 use Rattle.std.specs.Prelude.{ℕ, Bool, if◌then◌else◌, ◌&&◌, List, length, drop, Ok, Result, ◌==◌, nat_le, nat_lt, slice_index}
 use Rattle.std.specs.Option.{ok_or}
+use Rattle.digest.specs.Sizes.{block_size}
 use Rattle.notice.specs.declared.answer.Kind.{Kind}
 use Rattle.notice.specs.declared.answer.Kind.TheVariants as kind
 use Rattle.notice.specs.Limits.{text_limit, answer_head}
@@ -83,7 +84,7 @@ decided_on identity key question answer = do
 
 -- tags are made in the first bytes of a working area
 abbrev pub working_size : ℕ
-working_size = 64
+working_size = block_size
 
 -- the verdict of a reader with a working area of that room
 unfoldable pub verdict : List ℕ → List ℕ → Question → ℕ → List ℕ → Result Verdict ReaderFault

@@ -7,8 +7,9 @@ ghost use Rattle.reader.specs.Verdict.{verdict_with, accepted, decided, decided_
 use crate::evidence::{Body, Evidence, Text, text_start};
 use crate::fault::ReaderFault;
 use crate::layout::lay_out;
-use crate::rules::{WORKING_SIZE, check_digests, check_nonces, check_numbers};
+use crate::rules::{check_digests, check_nonces, check_numbers};
 use crate::types::{Challenge, Question, Reader, Verdict};
+use digest::WORKING_SIZE;
 use notice::{ANSWER_HEAD, AnswerHead, Kind};
 
 fn with_no_text(kind: Kind, position: u32, high: u32) -> Verdict

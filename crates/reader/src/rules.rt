@@ -12,12 +12,9 @@ use crate::evidence::{Evidence, Text};
 use crate::fault::ReaderFault;
 use crate::layout::demand;
 use crate::types::Reader;
-use digest::{digest, tag};
+use digest::{WORKING_SIZE, digest, tag};
 use notice::{INPUT_LIMIT, PREVIOUS_SIZE, Span, write_input};
 use statement::{STATEMENT_SIZE, SignedStatement, Statement};
-
-// The bytes of a working area that a tag is made in.
-pub(crate) const WORKING_SIZE: usize = 64;
 
 impl Reader {
     fn tag_of(&self, statement: &Statement, block: &mut [u8; WORKING_SIZE]) -> [u8; 32]
