@@ -1,6 +1,7 @@
 -- What an answer shows: its signed statements by their roles, and the previous digest, read from the bytes after the
 -- first three.
 use Rattle.std.specs.Prelude.{ℕ, ◌+◌, ◌-◌, ◌*◌, List, take, drop, Some, None, Option}
+use Rattle.digest.specs.Sizes.{digest_size}
 use Rattle.statement.specs.declared.types.SignedStatement.{SignedStatement}
 use Rattle.statement.specs.Layout.{statement_size, signed_statement_size, decoded}
 use Rattle.notice.specs.declared.answer.Kind.{Kind}
@@ -10,16 +11,12 @@ use Rattle.notice.specs.Answer.{head_length}
 use Rattle.reader.specs.declared.evidence.Evidence.{Evidence}
 use Rattle.reader.specs.declared.evidence.Evidence.TheVariants.{Found, Skipped, Forgotten, NotYet, End, EndOfEmpty}
 
--- a tag behind its statement
-abbrev pub tag_size : ℕ
-tag_size = signed_statement_size - statement_size
-
 -- the statement of that place among so many, with its tag: the statements come first, then their tags in the same order
 abbrev pub signed_in : ℕ → ℕ → List ℕ → SignedStatement
 signed_in count place bytes =
     record {
       statement = decoded (take statement_size (drop (statement_size * place) bytes));
-      tag = take tag_size (drop (statement_size * count + tag_size * place) bytes);
+      tag = take digest_size (drop (statement_size * count + digest_size * place) bytes);
     }
 
 -- the previous digest, behind so many statements with their tags

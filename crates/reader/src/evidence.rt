@@ -6,19 +6,17 @@ ghost use Rattle.notice.specs.Limits.{previous_size, answer_head, text_limit};
 ghost use Rattle.notice.specs.Answer.{head_length};
 ghost use Rattle.reader.specs.Evidence.{signed_in, previous_in, evidence_in, text_in, first_of, second_of, status_of};
 
+use digest::DIGEST_SIZE;
 use notice::{Kind, PREVIOUS_SIZE};
 use statement::{SIGNED_STATEMENT_SIZE, STATEMENT_SIZE, SignedStatement, Statement};
 use std::marker::Model;
-
-// The bytes of a tag.
-const TAG_SIZE: usize = SIGNED_STATEMENT_SIZE - STATEMENT_SIZE;
 
 // Each kind with the statements of its row; where a text follows, the previous digest too.
 #[derive(Clone, Copy)]
 pub enum Evidence {
     Found {
         advance: SignedStatement,
-        previous: [u8; 32],
+        previous: [u8; PREVIOUS_SIZE],
     },
     Skipped {
         advance: SignedStatement,
@@ -32,7 +30,7 @@ pub enum Evidence {
     End {
         status: SignedStatement,
         advance: SignedStatement,
-        previous: [u8; 32],
+        previous: [u8; PREVIOUS_SIZE],
     },
     EndOfEmpty {
         status: SignedStatement,
@@ -97,7 +95,7 @@ fn signed(bytes: &[u8], count: usize, place: usize) -> SignedStatement
 {
     SignedStatement {
         statement: Statement::from(&part(bytes, STATEMENT_SIZE * place)),
-        tag: part(bytes, STATEMENT_SIZE * count + TAG_SIZE * place),
+        tag: part(bytes, STATEMENT_SIZE * count + DIGEST_SIZE * place),
     }
 }
 

@@ -12,12 +12,12 @@ use crate::evidence::{Evidence, Text};
 use crate::fault::ReaderFault;
 use crate::layout::demand;
 use crate::types::Reader;
-use digest::{WORKING_SIZE, digest, tag};
+use digest::{DIGEST_SIZE, WORKING_SIZE, digest, tag};
 use notice::{INPUT_LIMIT, PREVIOUS_SIZE, Span, write_input};
 use statement::{STATEMENT_SIZE, SignedStatement, Statement};
 
 impl Reader {
-    fn tag_of(&self, statement: &Statement, block: &mut [u8; WORKING_SIZE]) -> [u8; 32]
+    fn tag_of(&self, statement: &Statement, block: &mut [u8; WORKING_SIZE]) -> [u8; DIGEST_SIZE]
         ensures answers { result ≡ hmac self.now.key (encoded statement.now) }
     {
         let bytes: [u8; STATEMENT_SIZE] = (*statement).into();
@@ -77,6 +77,8 @@ impl Reader {
         )
     }
 
+    // First, then second, as in `check_tags`: one function over a closure was tried, and left open that what a
+    // closure over the working area returns does not depend on the calls before.
     pub(crate) fn check_origins(&self, queue: u8, evidence: &Evidence) -> Result<(), ReaderFault>
         ensures answers { result ≡ origins self.now.identity queue evidence.now }
     {
@@ -182,7 +184,7 @@ pub(crate) fn check_numbers(position: u32, evidence: &Evidence) -> Result<(), Re
 }
 
 // The digest of the span, the previous digest and the text.
-fn matter_of(span: &Span, previous: &[u8; PREVIOUS_SIZE], text: &Text) -> [u8; 32]
+fn matter_of(span: &Span, previous: &[u8; PREVIOUS_SIZE], text: &Text) -> [u8; DIGEST_SIZE]
     ensures answers { result ≡ sha256 (digest_input span.now.lane span.now.old span.now.new previous.now text.now) }
 {
     let mut input = [0; INPUT_LIMIT];
