@@ -2,6 +2,7 @@
 use Rattle.std.proofs.Common.{◌≡◌, ℕ, ◌+◌, ◌*◌, ◌<◌, ◌≤◌, if◌then◌else◌, List, [], ◌∷◌, ◌++◌, length, get_or, take, drop, refl, sym, ap, ◌∙◌, ⊎_elim, append_assoc, arith}
 use Rattle.std.proofs.lemmas.List.{append-nil, take-append-drop, take_at, drop_at, drop-drop, take_all, length-append, length-take, length-take-le, length-drop, get_or-take, get_or-drop, get_or_past}
 use Rattle.std.proofs.lemmas.Bool.{cases_lt}
+use Rattle.digest.specs.Sizes.{digest_size}
 use Rattle.statement.specs.declared.types.Statement.{Statement}
 use Rattle.statement.specs.declared.types.SignedStatement.{SignedStatement}
 use Rattle.statement.specs.Layout.{statement_size, encoded, decoded, SizedSigned}
@@ -9,7 +10,7 @@ use Rattle.statement.proofs.Layouts.{length-encoded, decoded-encoded, encoded-de
 use Rattle.notice.specs.declared.answer.Kind.{Kind}
 use Rattle.notice.specs.Limits.{answer_head, signed_size}
 use Rattle.notice.specs.Answer.{number_of_kind, has_text, answer_bytes}
-use Rattle.reader.specs.Evidence.{tag_size, signed_in}
+use Rattle.reader.specs.Evidence.{signed_in}
 
 -- every byte is below 256
 abbrev pub Below : List ℕ → Type 0
@@ -69,14 +70,14 @@ read_sized count place xs within long =
         identity_bytes = length-take-le 8 part (omega arith);
         matter_bytes = length_part 17 32 part (omega arith);
       };
-      tag_bytes = length_part (statement_size * count + tag_size * place) tag_size xs (omega arith);
+      tag_bytes = length_part (statement_size * count + digest_size * place) digest_size xs (omega arith);
     }
 
 -- a statement and a tag that stand at their places are read again
 read_again :
     (count place : ℕ) (xs : List ℕ) (s : SignedStatement) → SizedSigned s →
     take statement_size (drop (statement_size * place) xs) ≡ encoded s.statement →
-    take tag_size (drop (statement_size * count + tag_size * place) xs) ≡ s.tag → signed_in count place xs ≡ s
+    take digest_size (drop (statement_size * count + digest_size * place) xs) ≡ s.tag → signed_in count place xs ≡ s
 read_again count place xs s h e t = made (ap decoded (e ∙ sym (append-nil (encoded s.statement))) ∙ decoded-encoded s.statement [] h.sized) t
   where
     made :
@@ -113,20 +114,20 @@ answer_of_two kind s t previous text = simp (append_assoc, append-nil)
 pub one_written :
     (xs : List ℕ) → Below xs → signed_size ≤ length xs → xs ≡ bytes_of_one (signed_in 1 0 xs) (drop signed_size xs)
 one_written xs h long =
-    split_at 0 49 xs
-    ∙ (ap (λ z. take 49 (drop 0 xs) ++ z) (split_at 49 32 xs)
-    ∙ ap (λ z. z ++ (take 32 (drop 49 xs) ++ drop 81 xs)) (sym (written_again 0 xs h (omega arith))))
+    split_at 0 statement_size xs
+    ∙ (ap (λ z. take statement_size (drop 0 xs) ++ z) (split_at statement_size digest_size xs)
+    ∙ ap (λ z. z ++ (take digest_size (drop statement_size xs) ++ drop signed_size xs)) (sym (written_again 0 xs h (omega arith))))
 
 pub two_written :
     (xs : List ℕ) → Below xs → signed_size * 2 ≤ length xs →
     xs ≡ bytes_of_two (signed_in 2 0 xs) (signed_in 2 1 xs) (drop (signed_size * 2) xs)
 two_written xs h long =
-    let rest = take 32 (drop 98 xs) ++ (take 32 (drop 130 xs) ++ drop 162 xs) in
-    split_at 0 49 xs
-    ∙ (ap (λ z. take 49 (drop 0 xs) ++ z)
-    (split_at 49 49 xs ∙ (ap (λ z. take 49 (drop 49 xs) ++ z) (split_at 98 32 xs ∙ ap (λ z. take 32 (drop 98 xs) ++ z) (split_at 130 32 xs))
-    ∙ ap (λ z. z ++ rest) (sym (written_again 49 xs h (omega arith)))))
-    ∙ ap (λ z. z ++ (encoded (decoded (take 49 (drop 49 xs))) ++ rest)) (sym (written_again 0 xs h (omega arith))))
+    let rest = take digest_size (drop (statement_size * 2) xs) ++ (take digest_size (drop (statement_size * 2 + digest_size) xs) ++ drop (signed_size * 2) xs) in
+    split_at 0 statement_size xs
+    ∙ (ap (λ z. take statement_size (drop 0 xs) ++ z)
+    (split_at statement_size statement_size xs ∙ (ap (λ z. take statement_size (drop statement_size xs) ++ z) (split_at (statement_size * 2) digest_size xs ∙ ap (λ z. take digest_size (drop (statement_size * 2) xs) ++ z) (split_at (statement_size * 2 + digest_size) digest_size xs))
+    ∙ ap (λ z. z ++ rest) (sym (written_again statement_size xs h (omega arith)))))
+    ∙ ap (λ z. z ++ (encoded (decoded (take statement_size (drop statement_size xs))) ++ rest)) (sym (written_again 0 xs h (omega arith))))
 
 -- and statements are read from their bytes
 pub record OneRead (xs tail : List ℕ) (s : SignedStatement) : Type 0 where
@@ -137,8 +138,8 @@ pub record OneRead (xs tail : List ℕ) (s : SignedStatement) : Type 0 where
 pub one_read : (xs tail : List ℕ) (s : SignedStatement) → SizedSigned s → xs ≡ bytes_of_one s tail → OneRead xs tail s
 one_read xs tail s h e =
     let n = length-encoded s.statement h.sized in
-    let a = stands 0 49 xs (encoded s.statement) (s.tag ++ tail) e n in
-    let b = stands 49 32 xs s.tag tail a.next h.tag_bytes in
+    let a = stands 0 statement_size xs (encoded s.statement) (s.tag ++ tail) e n in
+    let b = stands statement_size digest_size xs s.tag tail a.next h.tag_bytes in
     record { first = read_again 1 0 xs s h a.here b.here; behind = b.next; total = omega (arith, length-append {A = ℕ}, ap length e, h.tag_bytes) }
 
 pub record TwoRead (xs tail : List ℕ) (s t : SignedStatement) : Type 0 where
@@ -152,10 +153,10 @@ pub two_read :
 two_read xs tail s t h g e =
     let n = length-encoded s.statement h.sized in
     let m = length-encoded t.statement g.sized in
-    let a = stands 0 49 xs (encoded s.statement) (encoded t.statement ++ (s.tag ++ (t.tag ++ tail))) e n in
-    let b = stands 49 49 xs (encoded t.statement) (s.tag ++ (t.tag ++ tail)) a.next m in
-    let c = stands 98 32 xs s.tag (t.tag ++ tail) b.next h.tag_bytes in
-    let d = stands 130 32 xs t.tag tail c.next g.tag_bytes in
+    let a = stands 0 statement_size xs (encoded s.statement) (encoded t.statement ++ (s.tag ++ (t.tag ++ tail))) e n in
+    let b = stands statement_size statement_size xs (encoded t.statement) (s.tag ++ (t.tag ++ tail)) a.next m in
+    let c = stands (statement_size * 2) digest_size xs s.tag (t.tag ++ tail) b.next h.tag_bytes in
+    let d = stands (statement_size * 2 + digest_size) digest_size xs t.tag tail c.next g.tag_bytes in
     record {
       first = read_again 2 0 xs s h a.here c.here;
       second = read_again 2 1 xs t g b.here d.here;
