@@ -1,4 +1,2 @@
-pub mod Layouts
+mod Rooms
 pub mod Sames
-pub mod Verdicts
-mod Written

@@ -29,16 +29,7 @@ place_of (WrongNumbers i) = i
 place_of (WrongDigest i) = i
 
 abbrev pub finder_of : ReaderFault → List ℕ
-finder_of ShortWorkingArea = codes "reader"
-finder_of (NoQueue q) = codes "reader"
-finder_of (PositionZero q) = codes "reader"
-finder_of WrongLength = codes "reader"
-finder_of WrongForm = codes "reader"
-finder_of (WrongTag i) = codes "reader"
-finder_of (WrongOrigin i) = codes "reader"
-finder_of (WrongNonce i) = codes "reader"
-finder_of (WrongNumbers i) = codes "reader"
-finder_of (WrongDigest i) = codes "reader"
+finder_of _ = codes "reader"
 
 -- what is printed, as in 'refused 16 by reader at 0'
 abbrev pub shown_of : ReaderFault → List ℕ

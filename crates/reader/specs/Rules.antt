@@ -1,5 +1,6 @@
 -- The rules that an answer has to keep, each over all its statements. A rule says nothing, or why it refuses.
-use Rattle.std.specs.Prelude.{ℕ, ◌+◌, ◌*◌, Bool, cond, ◌&&◌, List, Some, None, Ok, Err, Option, Result, ◌==◌, nat_lt}
+use Rattle.std.specs.Prelude.{ℕ, ◌+◌, ◌*◌, Bool, if◌then◌else◌, ◌&&◌, List, Some, None, Ok, Err, Option, Result, ◌==◌, nat_lt}
+use Rattle.std.specs.Str.{bytes_eq}
 use Rattle.digest.specs.Sha256.{sha256}
 use Rattle.digest.specs.Hmac.{hmac}
 use Rattle.statement.specs.declared.types.Statement.{Statement}
@@ -10,20 +11,20 @@ use Rattle.reader.specs.declared.fault.ReaderFault.{ReaderFault}
 use Rattle.reader.specs.declared.fault.ReaderFault.TheVariants.{WrongTag, WrongOrigin, WrongNonce, WrongNumbers, WrongDigest}
 use Rattle.reader.specs.declared.evidence.Evidence.{Evidence}
 use Rattle.reader.specs.declared.evidence.Evidence.TheVariants.{Found, Skipped, Forgotten, NotYet, End, EndOfEmpty}
-use Rattle.reader.specs.Same.{same_bytes}
-use Rattle.reader.specs.Evidence.{first_of, second_of}
+use Rattle.reader.specs.Evidence.{first_of, second_of, status_of}
 
 abbrev pub Said : Type 0
 Said = Result (Unit {0}) ReaderFault
 
+-- nothing where the test holds, and else the refusal
 abbrev pub demanded : Bool → ReaderFault → Said
-demanded holds fault = cond holds (Ok tt) (Err fault)
+demanded holds fault = if holds then Ok tt else Err fault
 
-infixr 20 ◌then◌
+infixl 10 ◌>>=◌
 -- what comes next is tried where nothing was refused
-abbrev pub ◌then◌ : {X : Type 0} → Said → Result X ReaderFault → Result X ReaderFault
-Ok u then next = next
-Err fault then next = Err fault
+abbrev pub ◌>>=◌ : {X Y : Type 0} → Result X ReaderFault → (X → Result Y ReaderFault) → Result Y ReaderFault
+(Ok x) >>= next = next x
+(Err fault) >>= next = Err fault
 
 abbrev pub on_second : (SignedStatement → ℕ → Said) → Option SignedStatement → Said
 on_second rule None = Ok tt
@@ -31,11 +32,13 @@ on_second rule (Some s) = rule s 1
 
 -- a rule over all statements, which are counted from 0
 abbrev pub each : (SignedStatement → ℕ → Said) → Evidence → Said
-each rule evidence = rule (first_of evidence) 0 then on_second rule (second_of evidence)
+each rule evidence = do
+  _ ← rule (first_of evidence) 0
+  on_second rule (second_of evidence)
 
 -- the tag is that of the statement under the key
 abbrev pub signed_right : List ℕ → SignedStatement → Bool
-signed_right key s = same_bytes s.tag (hmac key (encoded s.statement))
+signed_right key s = bytes_eq s.tag (hmac key (encoded s.statement))
 
 abbrev pub tag_rule : List ℕ → SignedStatement → ℕ → Said
 tag_rule key s i = demanded (signed_right key s) (WrongTag i)
@@ -54,7 +57,7 @@ counter_for queue (EndOfEmpty status) = 2 * queue + 1
 
 -- the statement is of the dongle and of the counter
 abbrev pub origin_right : List ℕ → ℕ → Statement → Bool
-origin_right identity counter s = same_bytes s.identity identity && s.counter == counter
+origin_right identity counter s = bytes_eq s.identity identity && s.counter == counter
 
 abbrev pub origin_rule : List ℕ → ℕ → SignedStatement → ℕ → Said
 origin_rule identity counter s i = demanded (origin_right identity counter s.statement) (WrongOrigin i)
@@ -64,15 +67,14 @@ origins identity queue evidence = each (origin_rule identity (counter_for queue 
 
 -- a status is made for one challenge: its matter is the nonce
 abbrev pub nonce_rule : List ℕ → SignedStatement → Said
-nonce_rule nonce s = demanded (same_bytes s.statement.matter nonce) (WrongNonce 0)
+nonce_rule nonce s = demanded (bytes_eq s.statement.matter nonce) (WrongNonce 0)
+
+abbrev pub on_status : (SignedStatement → Said) → Option SignedStatement → Said
+on_status rule None = Ok tt
+on_status rule (Some status) = rule status
 
 abbrev pub nonces : List ℕ → Evidence → Said
-nonces nonce (Found advance previous) = Ok tt
-nonces nonce (Skipped advance) = Ok tt
-nonces nonce (Forgotten status) = nonce_rule nonce status
-nonces nonce (NotYet status) = nonce_rule nonce status
-nonces nonce (End status advance previous) = nonce_rule nonce status
-nonces nonce (EndOfEmpty status) = nonce_rule nonce status
+nonces nonce evidence = on_status (nonce_rule nonce) (status_of evidence)
 
 -- what the numbers show of a position
 abbrev pub found_at : ℕ → Statement → Bool
@@ -92,9 +94,9 @@ stands_at_zero s = is_status s && s.new == 0
 
 -- an end shows that the number is at least 1, and the advance that led to it
 abbrev pub end_numbers : Statement → Statement → Said
-end_numbers status advance =
-    demanded (stands_above 0 status) (WrongNumbers 0)
-    then demanded (found_at status.new advance) (WrongNumbers 1)
+end_numbers status advance = do
+  _ ← demanded (stands_above 0 status) (WrongNumbers 0)
+  demanded (found_at status.new advance) (WrongNumbers 1)
 
 abbrev pub numbers : ℕ → Evidence → Said
 numbers p (Found advance previous) = demanded (found_at p advance.statement) (WrongNumbers 0)
@@ -106,7 +108,7 @@ numbers p (EndOfEmpty status) = demanded (stands_at_zero status.statement) (Wron
 
 -- the digest rule: the advance's matter is the digest of queue, old, new, previous digest and text
 abbrev pub digest_right : ℕ → Statement → List ℕ → List ℕ → Bool
-digest_right queue s previous text = same_bytes s.matter (sha256 (digest_input queue s.old s.new previous text))
+digest_right queue s previous text = bytes_eq s.matter (sha256 (digest_input queue s.old s.new previous text))
 
 abbrev pub digests : ℕ → List ℕ → Evidence → Said
 digests queue text (Found advance previous) = demanded (digest_right queue advance.statement previous text) (WrongDigest 0)

@@ -1,8 +1,6 @@
--- Whether two byte strings are the same.
-use Rattle.std.specs.Prelude.{ℕ, Bool, true, false, ◌&&◌, List, [], ◌∷◌, ◌==◌}
+-- Whether two tags are the same, byte by byte.
+use Rattle.std.specs.Prelude.{ℕ, Bool, true, ◌&&◌, List, fold, ◌==◌}
+use Rattle.std.specs.List.{zip}
 
-unfoldable pub same_bytes : List ℕ → List ℕ → Bool
-same_bytes [] [] = true
-same_bytes [] (y ∷ ys) = false
-same_bytes (x ∷ xs) [] = false
-same_bytes (x ∷ xs) (y ∷ ys) = x == y && same_bytes xs ys
+abbrev pub all_same : List ℕ → List ℕ → Bool
+all_same a b = fold (λ same p. same && p.0 == p.1) true (zip a b)

@@ -5,7 +5,11 @@ ghost use Rattle.reader.specs.Drawing.{drawing, reading};
 use crate::fault::ReaderFault;
 use crate::types::{Asked, Challenge, Question, Reader};
 
+// Queues are 0 to 7.
+const HIGHEST_QUEUE: u8 = 7;
+
 impl Reader {
+    /// A reader of that dongle's statements.
     pub fn new(identity: [u8; 8], key: [u8; 32]) -> Reader
         ensures answers { result ≡ reading identity key }
     {
@@ -16,12 +20,12 @@ impl Reader {
     pub fn draw(&self, queue: u8, asked: Asked, nonce: [u8; 32]) -> Result<Challenge, ReaderFault>
         ensures answers { result ≡ drawing queue asked nonce }
     {
-        if queue > 7 {
+        if queue > HIGHEST_QUEUE {
             return Err(ReaderFault::NoQueue(queue));
         }
         match asked {
             Asked::Position(0) => Err(ReaderFault::PositionZero(queue)),
-            _ => Ok(Challenge {
+            Asked::Position(_) | Asked::End => Ok(Challenge {
                 question: Question {
                     queue,
                     asked,

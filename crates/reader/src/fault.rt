@@ -29,6 +29,7 @@ pub enum ReaderFault {
 }
 
 impl ReaderFault {
+    /// The number of the refusal.
     pub fn number(&self) -> u32
         ensures answers { result ≡ number_of self.now }
     {
@@ -51,19 +52,17 @@ impl ReaderFault {
         ensures answers { result ≡ place_of self.now }
     {
         match self {
-            ReaderFault::ShortWorkingArea => 0,
-            ReaderFault::WrongLength => 0,
-            ReaderFault::WrongForm => 0,
-            ReaderFault::NoQueue(queue) => u32::from(*queue),
-            ReaderFault::PositionZero(queue) => u32::from(*queue),
-            ReaderFault::WrongTag(statement) => u32::from(*statement),
-            ReaderFault::WrongOrigin(statement) => u32::from(*statement),
-            ReaderFault::WrongNonce(statement) => u32::from(*statement),
-            ReaderFault::WrongNumbers(statement) => u32::from(*statement),
-            ReaderFault::WrongDigest(statement) => u32::from(*statement),
+            ReaderFault::ShortWorkingArea | ReaderFault::WrongLength | ReaderFault::WrongForm => 0,
+            ReaderFault::NoQueue(queue) | ReaderFault::PositionZero(queue) => u32::from(*queue),
+            ReaderFault::WrongTag(statement)
+            | ReaderFault::WrongOrigin(statement)
+            | ReaderFault::WrongNonce(statement)
+            | ReaderFault::WrongNumbers(statement)
+            | ReaderFault::WrongDigest(statement) => u32::from(*statement),
         }
     }
 
+    /// Who found it.
     pub fn finder(&self) -> &'static str
         ensures answers { result.now ≡ finder_of self.now }
     {

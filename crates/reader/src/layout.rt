@@ -1,19 +1,39 @@
 // Whether an answer has the length and the form that its first three bytes and the question ask for.
-ghost use Rattle.std.specs.Prelude.{◌≡◌, ◌+◌, ◌-◌, ◌≤◌};
-ghost use Rattle.notice.specs.Answer.{head_length};
-ghost use Rattle.reader.specs.Verdict.{answers_to, right_size, right_form, laid_out};
+ghost use Rattle.std.specs.Prelude.{◌≡◌};
+ghost use Rattle.reader.specs.Rules.{demanded};
+ghost use Rattle.reader.specs.Verdict.{answers_to, right_size, right_form, laid_out, position_of};
 
 use crate::fault::ReaderFault;
 use crate::types::Asked;
-use notice::{Kind, TEXT_LIMIT, answer_length};
+use notice::{AnswerHead, Kind, TEXT_LIMIT};
 
-fn answers(asked: Asked, kind: Kind) -> bool
-    ensures answers { result ≡ answers_to asked kind }
-{
-    match asked {
-        Asked::Position(_) => kind.number() <= 4,
-        Asked::End => kind.number() > 4,
+impl Asked {
+    // The position asked for. An end has none, and its 0 is never one, since positions begin at 1: no rule of an
+    // end looks at it, so an Option would only be unwrapped again at every use.
+    pub(crate) fn position(self) -> u32
+        ensures answers { result ≡ position_of self }
+    {
+        match self {
+            Asked::Position(position) => position,
+            Asked::End => 0,
+        }
     }
+
+    fn is_answered_by(self, kind: Kind) -> bool
+        ensures answers { result ≡ answers_to self kind }
+    {
+        match kind {
+            Kind::Found | Kind::Skipped | Kind::Forgotten | Kind::NotYet => self != Asked::End,
+            Kind::End | Kind::EndOfEmpty => self == Asked::End,
+        }
+    }
+}
+
+// Nothing where the test holds, and else the refusal.
+pub(crate) fn demand(holds: bool, fault: ReaderFault) -> Result<(), ReaderFault>
+    ensures answers { result ≡ demanded holds fault }
+{
+    if holds { Ok(()) } else { Err(fault) }
 }
 
 fn is_right_size(kind: Kind, size: u8) -> bool
@@ -26,38 +46,20 @@ fn is_right_size(kind: Kind, size: u8) -> bool
     }
 }
 
-fn is_right_form(asked: Asked, kind: Kind, count: u8, size: u8) -> bool
-    ensures answers { result ≡ right_form asked kind count size }
+fn is_right_form(asked: Asked, kind: Kind, head: AnswerHead) -> bool
+    ensures answers { result ≡ right_form asked kind head.count head.size }
 {
-    answers(asked, kind) & (count == kind.statements()) & is_right_size(kind, size)
+    asked.is_answered_by(kind) && head.count == kind.statements() && is_right_size(kind, head.size)
 }
 
-// The kind of an answer of a length that begins with these three bytes.
-pub(crate) fn lay_out(
-    asked: Asked,
-    number: u8,
-    count: u8,
-    size: u8,
-    length: usize,
-) -> Result<Kind, ReaderFault>
-    ensures answers { result ≡ laid_out asked number count size length }
+// The kind of an answer of a length that begins with this head.
+pub(crate) fn lay_out(asked: Asked, head: AnswerHead, length: usize) -> Result<Kind, ReaderFault>
+    ensures answers { result ≡ laid_out asked head.number head.count head.size length }
 {
-    if length != answer_length(number, count, size) {
-        return Err(ReaderFault::WrongLength);
-    }
-    match Kind::of(number) {
-        Some(kind) if is_right_form(asked, kind, count, size) => Ok(kind),
-        _ => Err(ReaderFault::WrongForm),
-    }
-}
-
-// How many bytes stand before the text after the first three.
-pub(crate) fn text_start(kind: Kind) -> usize
-    ensures answers { result ≡ head_length kind - 3 }
-{
-    match kind {
-        Kind::Found => 113,
-        Kind::End => 194,
-        _ => 81,
-    }
+    demand(length == head.length(), ReaderFault::WrongLength)?;
+    let Ok(kind) = Kind::try_from(head.number) else {
+        return Err(ReaderFault::WrongForm);
+    };
+    demand(is_right_form(asked, kind, head), ReaderFault::WrongForm)?;
+    Ok(kind)
 }

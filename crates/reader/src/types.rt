@@ -1,4 +1,4 @@
-// A reader, his questions and challenges, and what he learns.
+// A reader, his questions and challenges, and what an accepted answer says.
 use notice::Kind;
 
 /// Holds the identity and the key of the dongle whose statements he believes.
@@ -29,7 +29,8 @@ pub struct Challenge {
     pub(crate) question: Question,
 }
 
-/// What an accepted answer says.
+/// What an accepted answer says. Its numbers are plain, 0 where there is none, so that a C caller can be handed the
+/// same struct.
 #[derive(Clone, Copy)]
 pub struct Verdict {
     pub kind: Kind,

@@ -1,251 +1,198 @@
--- An accepted answer keeps every rule of its kind's row.
-use Rattle.std.proofs.Common.{◌≡◌, ℕ, ◌+◌, ◌*◌, ◌≤◌, false, cond, eqb, ltb, List, [], ◌∷◌, ◌++◌, length, get_or, take, drop, Ok, sym, refl, ap, ◌∙◌, arith}
+-- An answer of which every rule holds keeps every rule of its kind's row.
+use Rattle.std.proofs.Common.{◌≡◌, ℕ, ◌+◌, ◌*◌, ◌≤◌, true, ◌==◌, List, [], ◌∷◌, ◌++◌, length, get_or, drop, sym, refl, ap, ◌∙◌, arith}
 use Rattle.std.proofs.lemmas.List.{length-drop, drop_all}
-use Rattle.std.proofs.lemmas.Bool.{cond-false, eqb-true, ltb-true}
-use Rattle.statement.specs.Layout.{encoded, decoded}
+use Rattle.std.proofs.lemmas.Bool.{eqb-true, leb-true}
+use Rattle.digest.specs.Hmac.{hmac}
+use Rattle.statement.specs.declared.types.SignedStatement.{SignedStatement}
+use Rattle.statement.specs.Layout.{encoded, SizedSigned}
 use Rattle.notice.specs.declared.answer.Kind.{Kind}
 use Rattle.notice.specs.declared.answer.Kind.TheVariants.{Found, Skipped, Forgotten, NotYet, End, EndOfEmpty}
-use Rattle.notice.specs.Answer.{number_of_kind, has_text, answer_bytes}
+use Rattle.notice.specs.Limits.{answer_head, signed_size, previous_size, text_limit}
+use Rattle.notice.specs.Answer.{number_of_kind, statements_of, answer_bytes, answer_length, head_length}
 use Rattle.reader.specs.declared.types.Question.{Question}
 use Rattle.reader.specs.declared.types.Verdict.{Verdict}
-use Rattle.reader.specs.declared.fault.ReaderFault.TheVariants.{WrongTag, WrongOrigin, WrongNonce, WrongNumbers, WrongDigest}
-use Rattle.reader.specs.declared.evidence.Evidence.{Evidence}
-use Rattle.reader.specs.Evidence.{block_at, signed_at, evidence_in, text_in}
-use Rattle.reader.specs.Rules.{Said, demanded, ◌then◌, tags, origins, nonces, numbers, digests, signed_right, origin_right, stands_above, found_at}
-use Rattle.reader.specs.Verdict.{position_of, accepted, ruled, judged, learnt}
-use Rattle.reader.proofs.Layouts.{Laid}
+use Rattle.reader.specs.Evidence.{signed_in, previous_in, evidence_in, text_in}
+use Rattle.reader.specs.Verdict.{right_size, verdict_with}
 use Rattle.reader_law.specs.Rows.{SignedBy, Row}
-use Rattle.reader_law.proofs.Parts.{Below, below_drop, headed, split_at, length_part, written_again, read_sized, answer_of_one, answer_of_two}
-use Rattle.reader_law.proofs.Tests.{Passed, passed, then_passed, same_from, signed_by, advance_at, advance_over, status_with}
+use Rattle.reader_law.specs.Refusals.{size, tag, origin, nonce, numbers, digest, Form}
+use Rattle.reader_law.proofs.Outcomes.{Accepts}
+use Rattle.reader_law.proofs.Rightly.{Keeps}
+use Rattle.reader_law.proofs.Parts.{Below, below_drop, headed, split_at, length_part, one_written, two_written, read_sized, tail_of, answer_of_one, answer_of_two}
 
-all_passed :
-    (identity key : List ℕ) (question : Question) (text : List ℕ) (e : Evidence) (v : Verdict) →
-    judged identity key question text e ≡ Ok v → Passed identity key question text e v
-all_passed identity key question text e v h =
-    let p = position_of question.asked in
-    let a = then_passed (tags key e) (ruled identity question text e then Ok (accepted p (length text) e)) v h in
-    let b = then_passed (ruled identity question text e) (Ok (accepted p (length text) e)) v a.1 in
-    let c = then_passed (origins identity question.queue e) (nonces question.nonce e then numbers p e then digests question.queue text e) tt b.0 in
-    let d = then_passed (nonces question.nonce e) (numbers p e then digests question.queue text e) tt c.1 in
-    let f = then_passed (numbers p e) (digests question.queue text e) tt d.1 in
-    record {
-      tagged = a.0;
-      origin = c.0;
-      fresh = d.0;
-      numbered = f.0;
-      digested = f.1;
-      told = let t = b.1 in cc;
-    }
+-- how long an answer of a kind is
+record Whole (kind : Kind) (n total : ℕ) : Type 0 where
+  total_is : total ≡ head_length kind + n
+  short : n ≤ text_limit
 
--- the rest of an answer with one statement, in its parts
-one_part :
-    (xs : List ℕ) → Below xs → 81 ≤ length xs →
-    xs ≡ encoded (decoded (take 49 (drop 0 xs))) ++ (block_at 49 xs ++ drop 81 xs)
-one_part xs h long =
-    split_at 0 49 xs
-    ∙ (ap (λ z. take 49 (drop 0 xs) ++ z) (split_at 49 32 xs)
-    ∙ ap (λ z. z ++ (block_at 49 xs ++ drop 81 xs)) (sym (written_again 0 xs h (omega arith))))
+whole :
+    (kind : Kind) (n total : ℕ) → total ≡ answer_length (number_of_kind kind) (statements_of kind) n →
+    right_size kind n ≡ true → Whole kind n total
+whole Found n total e h = record { total_is = omega arith; short = leb-true n text_limit h }
+whole Skipped n total e h = let z = eqb-true n 0 h in record { total_is = omega arith; short = omega arith }
+whole Forgotten n total e h = let z = eqb-true n 0 h in record { total_is = omega arith; short = omega arith }
+whole NotYet n total e h = let z = eqb-true n 0 h in record { total_is = omega arith; short = omega arith }
+whole End n total e h = record { total_is = omega arith; short = leb-true n text_limit h }
+whole EndOfEmpty n total e h = let z = eqb-true n 0 h in record { total_is = omega arith; short = omega arith }
 
--- of an answer with two
-two-parts :
-    (xs : List ℕ) → Below xs → 162 ≤ length xs →
-    xs ≡ encoded (decoded (take 49 (drop 0 xs)))
-    ++ (encoded (decoded (take 49 (drop 49 xs))) ++ (block_at 98 xs ++ (block_at 130 xs ++ drop 162 xs)))
-two-parts xs h long =
-    let rest = block_at 98 xs ++ (block_at 130 xs ++ drop 162 xs) in
-    split_at 0 49 xs
-    ∙ (ap (λ z. take 49 (drop 0 xs) ++ z)
-    (split_at 49 49 xs ∙ (ap (λ z. take 49 (drop 49 xs) ++ z) (split_at 98 32 xs ∙ ap (λ z. block_at 98 xs ++ z) (split_at 130 32 xs))
-    ∙ ap (λ z. z ++ rest) (sym (written_again 49 xs h (omega arith)))))
-    ∙ ap (λ z. z ++ (encoded (decoded (take 49 (drop 49 xs))) ++ rest)) (sym (written_again 0 xs h (omega arith))))
-
--- an answer by its first three bytes and the rest
-from_head :
-    (answer rest : List ℕ) (a b c : ℕ) → 3 ≤ length answer → get_or answer 0 0 ≡ a → get_or answer 1 0 ≡ b →
-    get_or answer 2 0 ≡ c → drop 3 answer ≡ rest → answer ≡ a ∷ b ∷ c ∷ rest
-from_head answer rest a b c long ea eb ec er = let h = headed answer long in cc
-
--- an answer of a kind with one statement and no text is the layout of what was read
-bare_layout :
-    (kind : Kind) (answer : List ℕ) → Below answer → length answer ≡ 84 →
-    get_or answer 0 0 ≡ number_of_kind kind → get_or answer 1 0 ≡ 1 → get_or answer 2 0 ≡ 0 → has_text kind ≡ false →
-    answer ≡ answer_bytes kind (signed_at 0 49 (drop 3 answer) ∷ []) [] []
-bare_layout kind answer below total n k z none =
-    let rest = drop 3 answer in
-    let s = signed_at 0 49 rest in
-    let l = length-drop 3 answer in
-    let parts = one_part rest (below_drop 3 answer below) (omega arith) in
-    let tail : drop 81 rest ≡ cond (has_text kind) ([] ++ []) [] = drop_all 81 rest (omega arith) ∙ sym (cond-false (has_text kind) ([] ++ []) [] none) in
-    from_head answer (encoded s.statement ++ (s.tag ++ cond (has_text kind) ([] ++ []) [])) (number_of_kind kind) 1 0 (omega arith) n k z
-    (parts ∙ ap (λ t. encoded s.statement ++ (s.tag ++ t)) tail)
-    ∙ sym (answer_of_one kind s [] [])
-
-found_layout :
-    (size : ℕ) (answer : List ℕ) → Below answer → length answer ≡ 116 + size →
-    get_or answer 0 0 ≡ 1 → get_or answer 1 0 ≡ 1 → get_or answer 2 0 ≡ size →
-    answer ≡ answer_bytes Found (signed_at 0 49 (drop 3 answer) ∷ []) (block_at 81 (drop 3 answer)) (drop 113 (drop 3 answer))
-found_layout size answer below total n k z =
-    let rest = drop 3 answer in
-    let s = signed_at 0 49 rest in
-    let l = length-drop 3 answer in
-    let m = length-drop 113 rest in
-    let parts = one_part rest (below_drop 3 answer below) (omega arith) in
-    from_head answer (encoded s.statement ++ (s.tag ++ (block_at 81 rest ++ drop 113 rest))) 1 1 (length (drop 113 rest)) (omega arith) n k (omega arith)
-    (parts ∙ ap (λ t. encoded s.statement ++ (s.tag ++ t)) (split_at 81 32 rest))
-    ∙ sym (answer_of_one Found s (block_at 81 rest) (drop 113 rest))
+-- an answer of a kind is the layout of the statements that are read from it
+one_layout :
+    (kind : Kind) (answer previous text : List ℕ) → Below answer → answer_head + signed_size ≤ length answer →
+    get_or answer 0 0 ≡ number_of_kind kind → get_or answer 1 0 ≡ 1 → get_or answer 2 0 ≡ length text →
+    drop signed_size (drop answer_head answer) ≡ tail_of kind previous text →
+    answer ≡ answer_bytes kind (signed_in 1 0 (drop answer_head answer) ∷ []) previous text
+one_layout kind answer previous text below long n c z tail =
+    let rest = drop answer_head answer in
+    let l = length-drop answer_head answer in
+    let h = headed answer (omega arith) in
+    let w = one_written rest (below_drop answer_head answer below) (omega arith) in
+    let a = answer_of_one kind (signed_in 1 0 rest) previous text in
+    cc
 
 end_layout :
-    (size : ℕ) (answer : List ℕ) → Below answer → length answer ≡ 197 + size →
-    get_or answer 0 0 ≡ 5 → get_or answer 1 0 ≡ 2 → get_or answer 2 0 ≡ size →
-    answer
-    ≡ answer_bytes End (signed_at 0 98 (drop 3 answer) ∷ signed_at 49 130 (drop 3 answer) ∷ []) (block_at 162 (drop 3 answer)) (drop 194 (drop 3 answer))
-end_layout size answer below total n k z =
-    let rest = drop 3 answer in
-    let s = signed_at 0 98 rest in
-    let t = signed_at 49 130 rest in
-    let l = length-drop 3 answer in
-    let m = length-drop 194 rest in
-    let parts = two-parts rest (below_drop 3 answer below) (omega arith) in
-    from_head answer (encoded s.statement ++ (encoded t.statement ++ (s.tag ++ (t.tag ++ (block_at 162 rest ++ drop 194 rest))))) 5 2 (length (drop 194 rest)) (omega arith) n k (omega arith)
-    (parts ∙ ap (λ z. encoded s.statement ++ (encoded t.statement ++ (s.tag ++ (t.tag ++ z)))) (split_at 162 32 rest))
-    ∙ sym (answer_of_two End s t (block_at 162 rest) (drop 194 rest))
+    (answer previous text : List ℕ) → Below answer → answer_head + signed_size * 2 ≤ length answer →
+    get_or answer 0 0 ≡ 5 → get_or answer 1 0 ≡ 2 → get_or answer 2 0 ≡ length text →
+    drop (signed_size * 2) (drop answer_head answer) ≡ previous ++ text →
+    answer ≡ answer_bytes End (signed_in 2 0 (drop answer_head answer) ∷ signed_in 2 1 (drop answer_head answer) ∷ []) previous text
+end_layout answer previous text below long n c z tail =
+    let rest = drop answer_head answer in
+    let l = length-drop answer_head answer in
+    let h = headed answer (omega arith) in
+    let w = two_written rest (below_drop answer_head answer below) (omega arith) in
+    let a = answer_of_two End (signed_in 2 0 rest) (signed_in 2 1 rest) previous text in
+    cc
 
--- the only statement of an answer passed its tag and its origin
-one_signed :
-    (identity key : List ℕ) (counter : ℕ) (xs : List ℕ) → 81 ≤ length xs →
-    ◌≡◌ {A = Said} (demanded (signed_right key (signed_at 0 49 xs)) (WrongTag 0) then Ok tt) (Ok tt) →
-    ◌≡◌ {A = Said} (demanded (origin_right identity counter (signed_at 0 49 xs).statement) (WrongOrigin 0) then Ok tt) (Ok tt) →
-    SignedBy identity key counter (signed_at 0 49 xs)
-one_signed identity key counter xs long t o =
-    let a = then_passed {X = Unit {0}} (demanded (signed_right key (signed_at 0 49 xs)) (WrongTag 0)) (Ok tt) tt t in
-    let b = then_passed {X = Unit {0}} (demanded (origin_right identity counter (signed_at 0 49 xs).statement) (WrongOrigin 0)) (Ok tt) tt o in
-    signed_by identity key counter (signed_at 0 49 xs) (read_sized 0 49 xs (omega arith) (omega arith))
-    (passed (signed_right key (signed_at 0 49 xs)) (WrongTag 0) a.0)
-    (passed (origin_right identity counter (signed_at 0 49 xs).statement) (WrongOrigin 0) b.0)
+signed_by :
+    (identity key : List ℕ) (counter : ℕ) (s : SignedStatement) → SizedSigned s → s.tag ≡ hmac key (encoded s.statement) →
+    (s.statement.identity ≡ identity) × (s.statement.counter ≡ counter) → SignedBy identity key counter s
+signed_by identity key counter s sized tagged from =
+    record { sized = sized; signed = tagged; of_dongle = from.0; of_counter = from.1 }
 
--- the row of a kind, from its passed rules
-pub row_of :
+-- the parts of a row that a kind with one statement has in any case
+record One (kind : Kind) (identity key : List ℕ) (counter : ℕ) (answer : List ℕ) : Type 0 where
+  layout : answer ≡ answer_bytes kind (signed_in 1 0 (drop answer_head answer) ∷ []) [] []
+  signed : SignedBy identity key counter (signed_in 1 0 (drop answer_head answer))
+
+one :
+    (kind : Kind) (identity key : List ℕ) (counter : ℕ) (answer : List ℕ) → Below answer → statements_of kind ≡ 1 →
+    right_size kind (get_or answer 2 0) ≡ (get_or answer 2 0 == 0) → tail_of kind [] [] ≡ [] → head_length kind ≡ answer_head + signed_size →
+    get_or answer 0 0 ≡ number_of_kind kind → get_or answer 1 0 ≡ statements_of kind → right_size kind (get_or answer 2 0) ≡ true →
+    length answer ≡ head_length kind + get_or answer 2 0 →
+    (signed_in 1 0 (drop answer_head answer)).tag ≡ hmac key (encoded (signed_in 1 0 (drop answer_head answer)).statement) →
+    ((signed_in 1 0 (drop answer_head answer)).statement.identity ≡ identity) × ((signed_in 1 0 (drop answer_head answer)).statement.counter ≡ counter) →
+    One kind identity key counter answer
+one kind identity key counter answer below single test none head n c fits total tagged from =
+    let rest = drop answer_head answer in
+    let l = length-drop answer_head answer in
+    let zero : get_or answer 2 0 ≡ 0 = eqb-true (get_or answer 2 0) 0 (sym test ∙ fits) in
+    record {
+      layout = one_layout kind answer [] [] below (omega arith) n (c ∙ single) zero (drop_all signed_size rest (omega arith) ∙ sym none);
+      signed = signed_by identity key counter (signed_in 1 0 rest) (read_sized 1 0 rest (omega arith) (omega arith)) tagged from;
+    }
+
+row_of :
     (kind : Kind) (identity key : List ℕ) (question : Question) (answer : List ℕ) (v : Verdict) → Below answer →
-    Laid question.asked kind (get_or answer 0 0) (get_or answer 1 0) (get_or answer 2 0) (length answer) →
-    judged identity key question (text_in kind (drop 3 answer)) (evidence_in kind (drop 3 answer)) ≡ Ok v →
+    Form question.asked answer kind → Whole kind (get_or answer 2 0) (length answer) →
+    Keeps identity key question (text_in kind (drop answer_head answer)) (evidence_in kind (drop answer_head answer)) v →
     Row kind identity key question answer v
-row_of Found identity key question answer v below laid h =
-    let rest = drop 3 answer in
-    let s = signed_at 0 49 rest in
-    let p = position_of question.asked in
-    let l = length-drop 3 answer in
-    let m = length-drop 113 rest in
-    let q = all_passed identity key question (drop 113 rest) (evidence_in Found rest) v h in
-    let n = advance_at s.statement.old s.statement.new p (passed _ (WrongNumbers 0) q.numbered) in
+row_of Found identity key question answer v below f w k =
+    let rest = drop answer_head answer in
+    let l = length-drop answer_head answer in
+    let m = length-drop (signed_size + previous_size) rest in
+    let e = w.total_is in
+    let p = length_part signed_size previous_size rest (omega arith) in
     record {
-      advance = s;
-      previous = block_at 81 rest;
-      text = drop 113 rest;
-      layout = found_layout (get_or answer 2 0) answer below laid.total_is laid.number_is laid.count_is refl;
-      previous_bytes = length_part 81 32 rest (omega (arith, laid.total_is));
-      short = omega (arith, laid.total_is, laid.short);
-      signed = one_signed identity key (2 * question.queue + 1) rest (omega (arith, laid.total_is)) q.tagged q.origin;
-      advances = n.0;
-      reaches = n.1;
-      digest = same_from _ _ (passed _ (WrongDigest 0) q.digested);
-      told = sym q.told;
+      advance = signed_in 1 0 rest;
+      previous = previous_in 1 rest;
+      text = text_in Found rest;
+      layout = one_layout Found answer (previous_in 1 rest) (text_in Found rest) below (omega arith) f.number_is f.count_is (omega arith) (split_at signed_size previous_size rest);
+      previous_bytes = p;
+      short = omega (arith, w.short);
+      signed = signed_by identity key _ (signed_in 1 0 rest) (read_sized 1 0 rest (omega arith) (omega arith)) k.tagged.0 k.origin_is.0;
+      advances = k.shows.0;
+      reaches = k.shows.1;
+      digest = k.digested;
+      says = sym k.says;
     }
-row_of Skipped identity key question answer v below laid h =
-    let rest = drop 3 answer in
-    let s = signed_at 0 49 rest in
-    let p = position_of question.asked in
-    let l = length-drop 3 answer in
-    let zero = eqb-true (get_or answer 2 0) 0 laid.size_is in
-    let q = all_passed identity key question (drop 81 rest) (evidence_in Skipped rest) v h in
-    let n = advance_over s.statement.old s.statement.new p (passed _ (WrongNumbers 0) q.numbered) in
+row_of Skipped identity key question answer v below f w k =
+    let o = one Skipped identity key _ answer below refl refl refl refl f.number_is f.count_is f.size_is w.total_is k.tagged.0 k.origin_is.0 in
     record {
-      advance = s;
-      layout = bare_layout Skipped answer below (omega (arith, laid.total_is)) laid.number_is laid.count_is zero refl;
-      signed = one_signed identity key (2 * question.queue + 1) rest (omega (arith, laid.total_is)) q.tagged q.origin;
-      advances = n.0;
-      from_below = n.1;
-      to_above = n.2;
-      told = sym q.told;
+      advance = signed_in 1 0 (drop answer_head answer);
+      layout = o.layout;
+      signed = o.signed;
+      advances = k.shows.0;
+      from_below = k.shows.1.0;
+      to_above = k.shows.1.1;
+      says = sym k.says;
     }
-row_of Forgotten identity key question answer v below laid h =
-    let rest = drop 3 answer in
-    let s = signed_at 0 49 rest in
-    let p = position_of question.asked in
-    let l = length-drop 3 answer in
-    let zero = eqb-true (get_or answer 2 0) 0 laid.size_is in
-    let q = all_passed identity key question (drop 81 rest) (evidence_in Forgotten rest) v h in
-    let n = status_with s.statement.old s.statement.new (ltb p s.statement.new) (passed _ (WrongNumbers 0) q.numbered) in
+row_of Forgotten identity key question answer v below f w k =
+    let o = one Forgotten identity key _ answer below refl refl refl refl f.number_is f.count_is f.size_is w.total_is k.tagged.0 k.origin_is.0 in
     record {
-      status = s;
-      layout = bare_layout Forgotten answer below (omega (arith, laid.total_is)) laid.number_is laid.count_is zero refl;
-      signed = one_signed identity key (2 * question.queue) rest (omega (arith, laid.total_is)) q.tagged q.origin;
-      nonce = same_from _ _ (passed _ (WrongNonce 0) q.fresh);
-      stands = n.0;
-      above = ltb-true p s.statement.new n.1;
-      told = sym q.told;
+      status = signed_in 1 0 (drop answer_head answer);
+      layout = o.layout;
+      signed = o.signed;
+      nonce = k.fresh;
+      stands = k.shows.0;
+      above = k.shows.1;
+      says = sym k.says;
     }
-row_of NotYet identity key question answer v below laid h =
-    let rest = drop 3 answer in
-    let s = signed_at 0 49 rest in
-    let p = position_of question.asked in
-    let l = length-drop 3 answer in
-    let zero = eqb-true (get_or answer 2 0) 0 laid.size_is in
-    let q = all_passed identity key question (drop 81 rest) (evidence_in NotYet rest) v h in
-    let n = status_with s.statement.old s.statement.new (ltb s.statement.new p) (passed _ (WrongNumbers 0) q.numbered) in
+row_of NotYet identity key question answer v below f w k =
+    let o = one NotYet identity key _ answer below refl refl refl refl f.number_is f.count_is f.size_is w.total_is k.tagged.0 k.origin_is.0 in
     record {
-      status = s;
-      layout = bare_layout NotYet answer below (omega (arith, laid.total_is)) laid.number_is laid.count_is zero refl;
-      signed = one_signed identity key (2 * question.queue + 1) rest (omega (arith, laid.total_is)) q.tagged q.origin;
-      nonce = same_from _ _ (passed _ (WrongNonce 0) q.fresh);
-      stands = n.0;
-      below = ltb-true s.statement.new p n.1;
-      told = sym q.told;
+      status = signed_in 1 0 (drop answer_head answer);
+      layout = o.layout;
+      signed = o.signed;
+      nonce = k.fresh;
+      stands = k.shows.0;
+      below = k.shows.1;
+      says = sym k.says;
     }
-row_of End identity key question answer v below laid h =
-    let rest = drop 3 answer in
-    let s = signed_at 0 98 rest in
-    let a = signed_at 49 130 rest in
-    let counter = 2 * question.queue + 1 in
-    let l = length-drop 3 answer in
-    let m = length-drop 194 rest in
-    let q = all_passed identity key question (drop 194 rest) (evidence_in End rest) v h in
-    let t = then_passed {X = Unit {0}} (demanded (signed_right key s) (WrongTag 0)) (demanded (signed_right key a) (WrongTag 1)) tt q.tagged in
-    let o = then_passed {X = Unit {0}} (demanded (origin_right identity counter s.statement) (WrongOrigin 0)) (demanded (origin_right identity counter a.statement) (WrongOrigin 1)) tt q.origin in
-    let n = then_passed {X = Unit {0}} (demanded (stands_above 0 s.statement) (WrongNumbers 0)) (demanded (found_at s.statement.new a.statement) (WrongNumbers 1)) tt q.numbered in
-    let stat = status_with s.statement.old s.statement.new (ltb 0 s.statement.new) (passed (stands_above 0 s.statement) (WrongNumbers 0) n.0) in
-    let adv = advance_at a.statement.old a.statement.new s.statement.new (passed (found_at s.statement.new a.statement) (WrongNumbers 1) n.1) in
+row_of End identity key question answer v below f w k =
+    let rest = drop answer_head answer in
+    let l = length-drop answer_head answer in
+    let m = length-drop (signed_size * 2 + previous_size) rest in
+    let e = w.total_is in
     record {
-      status = s;
-      advance = a;
-      previous = block_at 162 rest;
-      text = drop 194 rest;
-      layout = end_layout (get_or answer 2 0) answer below laid.total_is laid.number_is laid.count_is refl;
-      previous_bytes = length_part 162 32 rest (omega (arith, laid.total_is));
-      short = omega (arith, laid.total_is, laid.short);
-      signed = signed_by identity key counter s (read_sized 0 98 rest (omega (arith, laid.total_is)) (omega (arith, laid.total_is))) (passed (signed_right key s) (WrongTag 0) t.0) (passed (origin_right identity counter s.statement) (WrongOrigin 0) o.0);
-      also_signed = signed_by identity key counter a (read_sized 49 130 rest (omega (arith, laid.total_is)) (omega (arith, laid.total_is))) (passed (signed_right key a) (WrongTag 1) t.1) (passed (origin_right identity counter a.statement) (WrongOrigin 1) o.1);
-      nonce = same_from _ _ (passed _ (WrongNonce 0) q.fresh);
-      stands = stat.0;
-      written = ltb-true 0 s.statement.new stat.1;
-      advances = adv.0;
-      reaches = adv.1;
-      digest = same_from _ _ (passed _ (WrongDigest 1) q.digested);
-      told = sym q.told;
+      status = signed_in 2 0 rest;
+      advance = signed_in 2 1 rest;
+      previous = previous_in 2 rest;
+      text = text_in End rest;
+      layout = end_layout answer (previous_in 2 rest) (text_in End rest) below (omega arith) f.number_is f.count_is (omega arith) (split_at (signed_size * 2) previous_size rest);
+      previous_bytes = length_part (signed_size * 2) previous_size rest (omega arith);
+      short = omega (arith, w.short);
+      signed = signed_by identity key _ (signed_in 2 0 rest) (read_sized 2 0 rest (omega arith) (omega arith)) k.tagged.0 k.origin_is.0;
+      also_signed = signed_by identity key _ (signed_in 2 1 rest) (read_sized 2 1 rest (omega arith) (omega arith)) k.tagged.1 k.origin_is.1;
+      nonce = k.fresh;
+      stands = k.shows.0.0;
+      written = k.shows.0.1;
+      advances = k.shows.1.0;
+      reaches = k.shows.1.1;
+      digest = k.digested;
+      says = sym k.says;
     }
-row_of EndOfEmpty identity key question answer v below laid h =
-    let rest = drop 3 answer in
-    let s = signed_at 0 49 rest in
-    let l = length-drop 3 answer in
-    let zero = eqb-true (get_or answer 2 0) 0 laid.size_is in
-    let q = all_passed identity key question (drop 81 rest) (evidence_in EndOfEmpty rest) v h in
-    let n = status_with s.statement.old s.statement.new (eqb s.statement.new 0) (passed _ (WrongNumbers 0) q.numbered) in
-    let none = eqb-true s.statement.new 0 n.1 in
+row_of EndOfEmpty identity key question answer v below f w k =
+    let o = one EndOfEmpty identity key _ answer below refl refl refl refl f.number_is f.count_is f.size_is w.total_is k.tagged.0 k.origin_is.0 in
     record {
-      status = s;
-      layout = bare_layout EndOfEmpty answer below (omega (arith, laid.total_is)) laid.number_is laid.count_is zero refl;
-      signed = one_signed identity key (2 * question.queue + 1) rest (omega (arith, laid.total_is)) q.tagged q.origin;
-      nonce = same_from _ _ (passed _ (WrongNonce 0) q.fresh);
-      stands = n.0;
-      empty = none;
-      told = sym q.told ∙ ap (λ z. learnt EndOfEmpty 0 z 0 0) none;
+      status = signed_in 1 0 (drop answer_head answer);
+      layout = o.layout;
+      signed = o.signed;
+      nonce = k.fresh;
+      stands = k.shows.0;
+      empty = k.shows.1;
+      says = sym k.says ∙ ap (λ high. verdict_with EndOfEmpty 0 high 0 0) k.shows.1;
     }
+
+pub row_accepted :
+    (i k : List ℕ) (q : Question) (n : ℕ) (a : List ℕ) (v : Verdict) → Below a → (c : Accepts i k q n a v) → Row c.kind i k q a v
+row_accepted i k q n a v below c =
+    let f = c.is_form in
+    let total = (c.holds size).1 ∙ ap (λ x. answer_length x (get_or a 1 0) (get_or a 2 0)) f.number_is
+    ∙ ap (λ x. answer_length (number_of_kind c.kind) x (get_or a 2 0)) f.count_is in
+    row_of c.kind i k q a v below f (whole c.kind (get_or a 2 0) (length a) total f.size_is)
+    (record {
+      tagged = c.holds tag c.kind f;
+      origin_is = c.holds origin c.kind f;
+      fresh = c.holds nonce c.kind f;
+      shows = c.holds numbers c.kind f;
+      digested = c.holds digest c.kind f;
+      says = c.says;
+    })

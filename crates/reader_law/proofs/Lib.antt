@@ -1,7 +1,6 @@
-mod Parts
-mod Tests
-mod Accepted
-mod Rightly
-pub mod Law
 mod Settled
 pub mod Outcomes
+mod Parts
+mod Rightly
+mod Accepted
+pub mod Law

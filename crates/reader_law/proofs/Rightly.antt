@@ -1,237 +1,254 @@
--- An answer that keeps every rule of its kind's row is accepted.
-use Rattle.std.proofs.Common.{◌≡◌, ℕ, ◌+◌, ◌-◌, ◌*◌, ◌≤◌, true, false, cond, eqb, List, [], ◌∷◌, ◌++◌, length, drop, Some, Ok, sym, refl, ap, ◌∙◌, arith}
+-- An answer that keeps every rule of its kind's row keeps every rule that is tried.
+use Rattle.std.proofs.Common.{◌≡◌, ℕ, ◌+◌, ◌-◌, ◌*◌, ◌≤◌, Bool, true, false, if◌then◌else◌, List, [], ◌∷◌, ◌++◌, length, get_or, drop, sym, refl, ap, ◌∙◌, subst, arith}
 use Rattle.std.proofs.lemmas.List.{length-append}
-use Rattle.std.proofs.lemmas.Bool.{cond-true, cond-false, and_from, eq-eqb, le-leb, lt-ltb}
+use Rattle.std.proofs.lemmas.Bool.{le-leb}
+use Rattle.digest.specs.Hmac.{hmac}
 use Rattle.statement.specs.declared.types.SignedStatement.{SignedStatement}
 use Rattle.statement.specs.Layout.{encoded, SizedSigned}
-use Rattle.statement.proofs.Layouts.{length-encoded}
 use Rattle.notice.specs.declared.answer.Kind.{Kind}
 use Rattle.notice.specs.declared.answer.Kind.TheVariants.{Found, Skipped, Forgotten, NotYet, End, EndOfEmpty}
-use Rattle.notice.specs.Answer.{number_of_kind, statements_of, has_text, kind_of, answer_bytes, answer_length, head_length}
-use Rattle.reader.specs.declared.types.Asked.{Asked}
+use Rattle.notice.specs.Limits.{answer_head, signed_size, previous_size, text_limit}
+use Rattle.notice.specs.Answer.{number_of_kind, statements_of, has_text, answer_bytes, answer_length, head_length}
 use Rattle.reader.specs.declared.types.Question.{Question}
 use Rattle.reader.specs.declared.types.Verdict.{Verdict}
-use Rattle.reader.specs.declared.fault.ReaderFault.TheVariants.{WrongTag, WrongOrigin, WrongNonce, WrongNumbers, WrongDigest}
 use Rattle.reader.specs.declared.evidence.Evidence.{Evidence}
 use Rattle.reader.specs.declared.evidence.Evidence.TheVariants as evidence
-use Rattle.reader.specs.Evidence.{signed_at, evidence_in, text_in}
-use Rattle.reader.specs.Rules.{Said, demanded, ◌then◌, tags, origins, nonces, numbers, signed_right, origin_right, stands_above, found_at}
-use Rattle.reader.specs.Verdict.{answers_to, right_size, right_form, formed, laid_out, position_of, ruled, judged, verdict, learnt}
-use Rattle.reader.proofs.Verdicts.{verdict_by_kind}
-use Rattle.reader_law.specs.Rows.{SignedBy, Row}
-use Rattle.reader_law.proofs.Parts.{next, part_at, read_again, answer_of_one, answer_of_two}
-use Rattle.reader_law.proofs.Tests.{Passed, holds, then_next, from_same, tag_passes, origin_passes}
+use Rattle.reader.specs.Evidence.{signed_in, evidence_in, text_in}
+use Rattle.reader.specs.Rules.{counter_for}
+use Rattle.reader.specs.Verdict.{answers_to, right_size, position_of, verdict_with, accepted}
+use Rattle.reader_law.specs.Rows.{Row, Right}
+use Rattle.reader_law.specs.Refusals.{Rule, room, size, form, tag, origin, nonce, numbers, digest, Form, Every, Fresh, Shows, Digested, OfKind, Holds}
+use Rattle.reader_law.specs.Refusals as rules
+use Rattle.reader_law.proofs.Outcomes.{of_kind}
+use Rattle.reader_law.proofs.Parts.{tail_of, bytes_of_one, bytes_of_two, one_read, two_read, stands, answer_of_one, answer_of_two}
 
--- the form of an answer of a kind
-lays_out :
-    (kind : Kind) (asked : Asked) (size total : ℕ) → answers_to asked kind ≡ true → right_size kind size ≡ true →
-    total ≡ answer_length (number_of_kind kind) (statements_of kind) size →
-    kind_of (number_of_kind kind) ≡ Some kind →
-    laid_out asked (number_of_kind kind) (statements_of kind) size total ≡ Ok kind
-lays_out kind asked size total a s t k =
-    cond-true (eqb total (answer_length (number_of_kind kind) (statements_of kind) size)) _ _ (eq-eqb total _ t)
-    ∙ (ap (formed asked (statements_of kind) size) k
-    ∙ cond-true (right_form asked kind (statements_of kind) size) _ _
-    (and_from (answers_to asked kind) _ a (and_from (eqb (statements_of kind) (statements_of kind)) _ (eq-eqb _ _ refl) s)))
+-- what an answer of a kind is read as
+pub record Reads (kind : Kind) (answer text : List ℕ) (e : Evidence) : Type 0 where
+  pub number_is : get_or answer 0 0 ≡ number_of_kind kind
+  pub count_is : get_or answer 1 0 ≡ statements_of kind
+  pub size_is : right_size kind (get_or answer 2 0) ≡ true
+  pub long : answer_head ≤ length answer
+  pub total_is : length answer ≡ answer_length (get_or answer 0 0) (get_or answer 1 0) (get_or answer 2 0)
+  pub shown : evidence_in kind (drop answer_head answer) ≡ e
+  pub text_is : text_in kind (drop answer_head answer) ≡ text
 
-judged_passes :
-    (identity key : List ℕ) (question : Question) (text : List ℕ) (e : Evidence) (v : Verdict) →
-    Passed identity key question text e v → judged identity key question text e ≡ Ok v
-judged_passes identity key question text e v h =
-    let p = position_of question.asked in
-    let f : ruled identity question text e ≡ Ok tt =
-    then_next (origins identity question.queue e) _ h.origin
-    ∙ (then_next (nonces question.nonce e) _ h.fresh
-    ∙ (then_next (numbers p e) _ h.numbered ∙ h.digested)) in
-    then_next (tags key e) _ h.tagged
-    ∙ (then_next (ruled identity question text e) _ f ∙ ap Ok h.told)
+-- every rule over the statements holds of the evidence, and what is accepted
+pub record Keeps (identity key : List ℕ) (question : Question) (text : List ℕ) (e : Evidence) (v : Verdict) : Type 0 where
+  pub tagged : Every (λ s. s.tag ≡ hmac key (encoded s.statement)) e
+  pub origin_is : Every (λ s. (s.statement.identity ≡ identity) × (s.statement.counter ≡ counter_for question.queue e)) e
+  pub fresh : Fresh question.nonce e
+  pub shows : Shows (position_of question.asked) e
+  pub digested : Digested question.queue text e
+  pub says : accepted (position_of question.asked) (length text) e ≡ v
 
--- the verdict on an answer that begins with three bytes and is read as evidence and text
-assembled :
-    (kind : Kind) (identity key : List ℕ) (question : Question) (room : ℕ) (answer rest text : List ℕ) (size : ℕ)
-    (e : Evidence) (v : Verdict) → 64 ≤ room →
-    answer ≡ number_of_kind kind ∷ statements_of kind ∷ size ∷ rest →
-    laid_out question.asked (number_of_kind kind) (statements_of kind) size (3 + length rest) ≡ Ok kind →
-    evidence_in kind rest ≡ e → text_in kind rest ≡ text →
-    Passed identity key question text e v → verdict identity key question room answer ≡ Ok v
-assembled kind identity key question room answer rest text size e v roomy laid form shown said passes =
-    let whole : List ℕ = number_of_kind kind ∷ statements_of kind ∷ size ∷ rest in
-    let t : length whole ≡ 3 + length rest = omega arith in
-    let k : Ok kind ≡ laid_out question.asked (number_of_kind kind) (statements_of kind) size (length whole) =
-    sym form ∙ ap (laid_out question.asked (number_of_kind kind) (statements_of kind) size) (sym t) in
-    ap (verdict identity key question room) laid
-    ∙ (sym (verdict_by_kind identity key question room whole (Ok kind) roomy (omega arith) k)
-    ∙ (ap (λ z. judged identity key question z (evidence_in kind rest)) said
-    ∙ (ap (judged identity key question text) shown ∙ judged_passes identity key question text e v passes)))
+-- a row, read
+pub record Read (kind : Kind) (identity key : List ℕ) (question : Question) (answer : List ℕ) (v : Verdict) : Type 0 where
+  pub text : List ℕ
+  pub evidence : Evidence
+  pub reads : Reads kind answer text evidence
+  pub keeps : Keeps identity key question text evidence v
 
-one_read :
-    (xs tail : List ℕ) (s : SignedStatement) → SizedSigned s → xs ≡ encoded s.statement ++ (s.tag ++ tail) →
-    (signed_at 0 49 xs ≡ s) × (drop 81 xs ≡ tail) × (length xs ≡ 81 + length tail)
-one_read xs tail s h e =
-    let n = length-encoded s.statement h.sized in
-    let d = next 0 49 xs (encoded s.statement) (s.tag ++ tail) e n in
-    let f = next 49 32 xs s.tag tail d h.tag_bytes in
-    let a = part_at 0 49 xs (encoded s.statement) (s.tag ++ tail) e n in
-    let b = part_at 49 32 xs s.tag tail d h.tag_bytes in
-    let l = ap length e ∙ (length-append (encoded s.statement) _ ∙ ap (λ k. length (encoded s.statement) + k) (length-append s.tag tail)) in
-    (read_again 0 49 xs s h a b, f, omega (arith, h.tag_bytes))
+-- the first three bytes of an answer that begins with them
+record Headed (answer rest : List ℕ) (n c z : ℕ) : Type 0 where
+  first : get_or answer 0 0 ≡ n
+  second : get_or answer 1 0 ≡ c
+  third : get_or answer 2 0 ≡ z
+  behind : drop answer_head answer ≡ rest
+  total : length answer ≡ answer_head + length rest
 
-two_read :
-    (xs tail : List ℕ) (s t : SignedStatement) → SizedSigned s → SizedSigned t →
-    xs ≡ encoded s.statement ++ (encoded t.statement ++ (s.tag ++ (t.tag ++ tail))) →
-    (signed_at 0 98 xs ≡ s) × (signed_at 49 130 xs ≡ t) × (drop 162 xs ≡ tail) × (length xs ≡ 162 + length tail)
-two_read xs tail s t h g e =
-    let n = length-encoded s.statement h.sized in
-    let m = length-encoded t.statement g.sized in
-    let c = t.tag ++ tail in
-    let b = s.tag ++ c in
-    let a = encoded t.statement ++ b in
-    let d1 = next 0 49 xs (encoded s.statement) a e n in
-    let d2 = next 49 49 xs (encoded t.statement) b d1 m in
-    let d3 = next 98 32 xs s.tag c d2 h.tag_bytes in
-    let d4 = next 130 32 xs t.tag tail d3 g.tag_bytes in
-    let said-first = part_at 0 49 xs (encoded s.statement) a e n in
-    let said-second = part_at 49 49 xs (encoded t.statement) b d1 m in
-    let tag-first = part_at 98 32 xs s.tag c d2 h.tag_bytes in
-    let tag-second = part_at 130 32 xs t.tag tail d3 g.tag_bytes in
-    let l0 = ap length e ∙ length-append (encoded s.statement) a in
-    let l1 = length-append (encoded t.statement) b in
-    let l2 = length-append s.tag c in
-    let l3 = length-append t.tag tail in
-    (read_again 0 98 xs s h said-first tag-first, read_again 49 130 xs t g said-second tag-second, d4, omega (arith, h.tag_bytes, g.tag_bytes))
+headed_as : (answer rest : List ℕ) (n c z : ℕ) → answer ≡ n ∷ c ∷ z ∷ rest → Headed answer rest n c z
+headed_as answer rest n c z e =
+    record {
+      first = ap (λ xs. get_or xs 0 0) e;
+      second = ap (λ xs. get_or xs 1 0) e;
+      third = ap (λ xs. get_or xs 2 0) e;
+      behind = ap (drop answer_head) e;
+      total = ap length e ∙ omega arith;
+    }
 
--- an answer with one statement and no text, whose evidence is made of it
-bare_right :
-    (kind : Kind) (identity key : List ℕ) (question : Question) (room : ℕ) (answer : List ℕ) (s : SignedStatement)
-    (e : SignedStatement → Evidence) (v : Verdict) → 64 ≤ room → SizedSigned s →
-    answers_to question.asked kind ≡ true → has_text kind ≡ false → statements_of kind ≡ 1 → head_length kind ≡ 84 →
-    right_size kind 0 ≡ true → answer_length (number_of_kind kind) 1 0 ≡ 84 →
-    kind_of (number_of_kind kind) ≡ Some kind → ((xs : List ℕ) → evidence_in kind xs ≡ e (signed_at 0 49 xs)) →
-    answer ≡ answer_bytes kind (s ∷ []) [] [] →
-    Passed identity key question [] (e s) v → verdict identity key question room answer ≡ Ok v
-bare_right kind identity key question room answer s e v roomy sized asks none one head right total k shown layout passes =
-    let rest = encoded s.statement ++ (s.tag ++ []) in
-    let tail : cond (has_text kind) ([] ++ []) [] ≡ [] = cond-false (has_text kind) ([] ++ []) [] none in
-    let r = one_read rest [] s sized refl in
-    let w : answer ≡ number_of_kind kind ∷ statements_of kind ∷ 0 ∷ rest =
-    layout ∙ (answer_of_one kind s [] []
-    ∙ (ap (λ t. number_of_kind kind ∷ 1 ∷ 0 ∷ (encoded s.statement ++ (s.tag ++ t))) tail
-    ∙ ap (λ n. number_of_kind kind ∷ n ∷ 0 ∷ rest) (sym one))) in
-    let t : 3 + length rest ≡ answer_length (number_of_kind kind) (statements_of kind) 0 =
-    omega (arith, r.2, total) ∙ ap (λ n. answer_length (number_of_kind kind) n 0) (sym one) in
-    let text : text_in kind rest ≡ [] = ap (λ n. drop (n - 3) rest) head ∙ r.1 in
-    assembled kind identity key question room answer rest [] 0 (e s) v roomy w
-    (lays_out kind question.asked 0 (3 + length rest) asks right t k)
-    (shown rest ∙ ap e r.0) text passes
+three_same :
+    (f : ℕ → ℕ → ℕ → ℕ) {x y z n c m : ℕ} → x ≡ n → y ≡ c → z ≡ m → f x y z ≡ f n c m
+three_same f p q r = cc
 
--- one statement that is signed and of its counter
-one_tagged :
-    {identity key : List ℕ} {counter : ℕ} (s : SignedStatement) → SignedBy identity key counter s →
-    ◌≡◌ {A = Said} (demanded (signed_right key s) (WrongTag 0) then Ok tt) (Ok tt)
-one_tagged s h = then_next (demanded (signed_right _ s) (WrongTag 0)) (Ok tt) (holds _ (WrongTag 0) (tag_passes s h))
+nothing : (b : Bool) → ◌≡◌ {A = List ℕ} (if b then [] ++ [] else []) []
+nothing true = refl
+nothing false = refl
 
-one_origin :
-    {identity key : List ℕ} {counter : ℕ} (s : SignedStatement) → SignedBy identity key counter s →
-    ◌≡◌ {A = Said} (demanded (origin_right identity counter s.statement) (WrongOrigin 0) then Ok tt) (Ok tt)
-one_origin s h = then_next (demanded (origin_right _ _ s.statement) (WrongOrigin 0)) (Ok tt) (holds _ (WrongOrigin 0) (origin_passes s h))
+-- an answer in the layout of a kind with one statement and no text
+bare :
+    (kind : Kind) (answer : List ℕ) (s : SignedStatement) (e : SignedStatement → Evidence) → SizedSigned s →
+    ((xs : List ℕ) → evidence_in kind xs ≡ e (signed_in 1 0 xs)) → right_size kind 0 ≡ true → statements_of kind ≡ 1 →
+    head_length kind ≡ answer_head + signed_size → answer_length (number_of_kind kind) 1 0 ≡ answer_head + signed_size →
+    answer ≡ answer_bytes kind (s ∷ []) [] [] → Reads kind answer [] (e s)
+bare kind answer s e sized shown fits one head total layout =
+    let tail = tail_of kind [] [] in
+    let none : tail ≡ [] = nothing (has_text kind) in
+    let h = headed_as answer (bytes_of_one s tail) (number_of_kind kind) 1 0 (layout ∙ answer_of_one kind s [] []) in
+    let r = one_read (drop answer_head answer) tail s sized h.behind in
+    let length_is : length answer ≡ answer_head + signed_size = omega (arith, h.total, ap length h.behind, r.total, ap length none) in
+    record {
+      number_is = h.first;
+      count_is = h.second ∙ sym one;
+      size_is = ap (right_size kind) h.third ∙ fits;
+      long = omega arith;
+      total_is = length_is ∙ (sym total ∙ sym (three_same answer_length h.first h.second h.third));
+      shown = shown (drop answer_head answer) ∙ ap e r.first;
+      text_is = ap (λ n. drop (n - answer_head) (drop answer_head answer)) head ∙ (r.behind ∙ none);
+    }
 
-pub accepts_row :
-    (kind : Kind) (identity key : List ℕ) (question : Question) (room : ℕ) (answer : List ℕ) (v : Verdict) → 64 ≤ room →
-    answers_to question.asked kind ≡ true → Row kind identity key question answer v →
-    verdict identity key question room answer ≡ Ok v
-accepts_row Found identity key question room answer v roomy asks row =
-    let s = row.advance in
-    let tail = row.previous ++ row.text in
-    let rest = encoded s.statement ++ (s.tag ++ tail) in
-    let r = one_read rest tail s row.signed.sized refl in
-    let b = part_at 81 32 rest row.previous row.text r.1 row.previous_bytes in
-    let t = next 81 32 rest row.previous row.text r.1 row.previous_bytes in
-    let l = length-append row.previous row.text in
-    let n : 3 + length rest ≡ 116 + length row.text = omega (arith, r.2, row.previous_bytes) in
-    assembled Found identity key question room answer rest row.text (length row.text) (evidence.Found s row.previous) v roomy
-    (row.layout ∙ answer_of_one Found s row.previous row.text)
-    (lays_out Found question.asked (length row.text) (3 + length rest) asks (le-leb (length row.text) 200 row.short) (n ∙ omega arith) refl)
-    (found-made r.0 b) t
-    (record {
-      tagged = one_tagged s row.signed;
-      origin = one_origin s row.signed;
-      fresh = refl;
-      numbered = holds _ (WrongNumbers 0) (and_from _ _ (lt-ltb _ _ row.advances) (eq-eqb _ _ row.reaches));
-      digested = holds _ (WrongDigest 0) (from_same _ _ row.digest);
-      told = sym row.told;
-    })
+found :
+    (answer previous text : List ℕ) (s : SignedStatement) → SizedSigned s → length previous ≡ previous_size →
+    length text ≤ text_limit → answer ≡ answer_bytes Found (s ∷ []) previous text →
+    Reads Found answer text (evidence.Found s previous)
+found answer previous text s sized p short layout =
+    let h = headed_as answer (bytes_of_one s (previous ++ text)) 1 1 (length text) (layout ∙ answer_of_one Found s previous text) in
+    let r = one_read (drop answer_head answer) (previous ++ text) s sized h.behind in
+    let d = stands signed_size previous_size (drop answer_head answer) previous text r.behind p in
+    let l = length-append previous text in
+    let length_is : length answer ≡ head_length Found + length text = omega (arith, h.total, ap length h.behind, r.total) in
+    record {
+      number_is = h.first;
+      count_is = h.second;
+      size_is = ap (right_size Found) h.third ∙ le-leb (length text) text_limit short;
+      long = omega arith;
+      total_is = (length_is ∙ omega arith) ∙ sym (three_same answer_length h.first h.second h.third);
+      shown = let a = r.first in let b = d.here in cc;
+      text_is = d.next;
+    }
+
+end :
+    (answer previous text : List ℕ) (s t : SignedStatement) → SizedSigned s → SizedSigned t → length previous ≡ previous_size →
+    length text ≤ text_limit → answer ≡ answer_bytes End (s ∷ t ∷ []) previous text →
+    Reads End answer text (evidence.End s t previous)
+end answer previous text s t sized also p short layout =
+    let h = headed_as answer (bytes_of_two s t (previous ++ text)) 5 2 (length text) (layout ∙ answer_of_two End s t previous text) in
+    let r = two_read (drop answer_head answer) (previous ++ text) s t sized also h.behind in
+    let d = stands (signed_size * 2) previous_size (drop answer_head answer) previous text r.behind p in
+    let l = length-append previous text in
+    let length_is : length answer ≡ head_length End + length text = omega (arith, h.total, ap length h.behind, r.total) in
+    record {
+      number_is = h.first;
+      count_is = h.second;
+      size_is = ap (right_size End) h.third ∙ le-leb (length text) text_limit short;
+      long = omega arith;
+      total_is = (length_is ∙ omega arith) ∙ sym (three_same answer_length h.first h.second h.third);
+      shown = let a = r.first in let b = r.second in let c = d.here in cc;
+      text_is = d.next;
+    }
+
+pub row_read :
+    (kind : Kind) (identity key : List ℕ) (question : Question) (answer : List ℕ) (v : Verdict) →
+    Row kind identity key question answer v → Read kind identity key question answer v
+row_read Found identity key question answer v row =
+    record {
+      text = row.text;
+      evidence = evidence.Found row.advance row.previous;
+      reads = found answer row.previous row.text row.advance row.signed.sized row.previous_bytes row.short row.layout;
+      keeps = record {
+        tagged = (row.signed.signed, tt);
+        origin_is = ((row.signed.of_dongle, row.signed.of_counter), tt);
+        fresh = tt;
+        shows = (row.advances, row.reaches);
+        digested = row.digest;
+        says = sym row.says;
+      };
+    }
+row_read Skipped identity key question answer v row =
+    record {
+      text = [];
+      evidence = evidence.Skipped row.advance;
+      reads = bare Skipped answer row.advance evidence.Skipped row.signed.sized (λ xs. refl) refl refl refl refl row.layout;
+      keeps = record {
+        tagged = (row.signed.signed, tt);
+        origin_is = ((row.signed.of_dongle, row.signed.of_counter), tt);
+        fresh = tt;
+        shows = (row.advances, (row.from_below, row.to_above));
+        digested = tt;
+        says = sym row.says;
+      };
+    }
+row_read Forgotten identity key question answer v row =
+    record {
+      text = [];
+      evidence = evidence.Forgotten row.status;
+      reads = bare Forgotten answer row.status evidence.Forgotten row.signed.sized (λ xs. refl) refl refl refl refl row.layout;
+      keeps = record {
+        tagged = (row.signed.signed, tt);
+        origin_is = ((row.signed.of_dongle, row.signed.of_counter), tt);
+        fresh = row.nonce;
+        shows = (row.stands, row.above);
+        digested = tt;
+        says = sym row.says;
+      };
+    }
+row_read NotYet identity key question answer v row =
+    record {
+      text = [];
+      evidence = evidence.NotYet row.status;
+      reads = bare NotYet answer row.status evidence.NotYet row.signed.sized (λ xs. refl) refl refl refl refl row.layout;
+      keeps = record {
+        tagged = (row.signed.signed, tt);
+        origin_is = ((row.signed.of_dongle, row.signed.of_counter), tt);
+        fresh = row.nonce;
+        shows = (row.stands, row.below);
+        digested = tt;
+        says = sym row.says;
+      };
+    }
+row_read End identity key question answer v row =
+    record {
+      text = row.text;
+      evidence = evidence.End row.status row.advance row.previous;
+      reads = end answer row.previous row.text row.status row.advance row.signed.sized row.also_signed.sized row.previous_bytes row.short row.layout;
+      keeps = record {
+        tagged = (row.signed.signed, row.also_signed.signed);
+        origin_is = ((row.signed.of_dongle, row.signed.of_counter), (row.also_signed.of_dongle, row.also_signed.of_counter));
+        fresh = row.nonce;
+        shows = ((row.stands, row.written), (row.advances, row.reaches));
+        digested = row.digest;
+        says = sym row.says;
+      };
+    }
+row_read EndOfEmpty identity key question answer v row =
+    record {
+      text = [];
+      evidence = evidence.EndOfEmpty row.status;
+      reads = bare EndOfEmpty answer row.status evidence.EndOfEmpty row.signed.sized (λ xs. refl) refl refl refl refl row.layout;
+      keeps = record {
+        tagged = (row.signed.signed, tt);
+        origin_is = ((row.signed.of_dongle, row.signed.of_counter), tt);
+        fresh = row.nonce;
+        shows = (row.stands, row.empty);
+        digested = tt;
+        says = ap (λ high. verdict_with EndOfEmpty 0 high 0 0) row.empty ∙ sym row.says;
+      };
+    }
+
+pub form_of :
+    {identity key : List ℕ} {question : Question} {answer : List ℕ} {v : Verdict} (kind : Kind) →
+    answers_to question.asked kind ≡ true → Read kind identity key question answer v → Form question.asked answer kind
+form_of kind asks read =
+    record { number_is = read.reads.number_is; answers = asks; count_is = read.reads.count_is; size_is = read.reads.size_is }
+
+pub all_hold :
+    (i k : List ℕ) (q : Question) (n : ℕ) (a : List ℕ) (v : Verdict) → Right i k q n a v → (rule : Rule) → Holds i k q n a rule
+all_hold i k q n a v right = holds
   where
-    found-made :
-        {a b : SignedStatement} {c d : List ℕ} → a ≡ b → c ≡ d → evidence.Found a c ≡ evidence.Found b d
-    found-made p q = cc
-accepts_row Skipped identity key question room answer v roomy asks row =
-    let s = row.advance in
-    bare_right Skipped identity key question room answer s evidence.Skipped v roomy row.signed.sized asks refl refl refl refl refl refl (λ xs. refl) row.layout
-    (record {
-      tagged = one_tagged s row.signed;
-      origin = one_origin s row.signed;
-      fresh = refl;
-      numbered = holds _ (WrongNumbers 0) (and_from _ _ (lt-ltb _ _ row.advances) (and_from _ _ (lt-ltb _ _ row.from_below) (lt-ltb _ _ row.to_above)));
-      digested = refl;
-      told = sym row.told;
-    })
-accepts_row Forgotten identity key question room answer v roomy asks row =
-    let s = row.status in
-    bare_right Forgotten identity key question room answer s evidence.Forgotten v roomy row.signed.sized asks refl refl refl refl refl refl (λ xs. refl) row.layout
-    (record {
-      tagged = one_tagged s row.signed;
-      origin = one_origin s row.signed;
-      fresh = holds _ (WrongNonce 0) (from_same _ _ row.nonce);
-      numbered = holds _ (WrongNumbers 0) (and_from _ _ (eq-eqb _ _ row.stands) (lt-ltb _ _ row.above));
-      digested = refl;
-      told = sym row.told;
-    })
-accepts_row NotYet identity key question room answer v roomy asks row =
-    let s = row.status in
-    bare_right NotYet identity key question room answer s evidence.NotYet v roomy row.signed.sized asks refl refl refl refl refl refl (λ xs. refl) row.layout
-    (record {
-      tagged = one_tagged s row.signed;
-      origin = one_origin s row.signed;
-      fresh = holds _ (WrongNonce 0) (from_same _ _ row.nonce);
-      numbered = holds _ (WrongNumbers 0) (and_from _ _ (eq-eqb _ _ row.stands) (lt-ltb _ _ row.below));
-      digested = refl;
-      told = sym row.told;
-    })
-accepts_row End identity key question room answer v roomy asks row =
-    let s = row.status in
-    let a = row.advance in
-    let counter = 2 * question.queue + 1 in
-    let tail = row.previous ++ row.text in
-    let rest = encoded s.statement ++ (encoded a.statement ++ (s.tag ++ (a.tag ++ tail))) in
-    let r = two_read rest tail s a row.signed.sized row.also_signed.sized refl in
-    let b = part_at 162 32 rest row.previous row.text r.2 row.previous_bytes in
-    let t = next 162 32 rest row.previous row.text r.2 row.previous_bytes in
-    let l = length-append row.previous row.text in
-    let n : 3 + length rest ≡ 197 + length row.text = omega (arith, r.3, row.previous_bytes) in
-    assembled End identity key question room answer rest row.text (length row.text) (evidence.End s a row.previous) v roomy
-    (row.layout ∙ answer_of_two End s a row.previous row.text)
-    (lays_out End question.asked (length row.text) (3 + length rest) asks (le-leb (length row.text) 200 row.short) (n ∙ omega arith) refl)
-    (end-made r.0 r.1 b) t
-    (record {
-      tagged = then_next (demanded (signed_right key s) (WrongTag 0)) (demanded (signed_right key a) (WrongTag 1)) (holds _ (WrongTag 0) (tag_passes s row.signed)) ∙ holds _ (WrongTag 1) (tag_passes a row.also_signed);
-      origin = then_next (demanded (origin_right identity counter s.statement) (WrongOrigin 0)) (demanded (origin_right identity counter a.statement) (WrongOrigin 1)) (holds _ (WrongOrigin 0) (origin_passes s row.signed)) ∙ holds _ (WrongOrigin 1) (origin_passes a row.also_signed);
-      fresh = holds _ (WrongNonce 0) (from_same _ _ row.nonce);
-      numbered = then_next (demanded (stands_above 0 s.statement) (WrongNumbers 0)) (demanded (found_at s.statement.new a.statement) (WrongNumbers 1)) (holds _ (WrongNumbers 0) (and_from _ _ (eq-eqb _ _ row.stands) (lt-ltb _ _ row.written))) ∙ holds _ (WrongNumbers 1) (and_from _ _ (lt-ltb _ _ row.advances) (eq-eqb _ _ row.reaches));
-      digested = holds _ (WrongDigest 1) (from_same _ _ row.digest);
-      told = sym row.told;
-    })
-  where
-    end-made :
-        {a b e f : SignedStatement} {c d : List ℕ} → a ≡ b → e ≡ f → c ≡ d → evidence.End a e c ≡ evidence.End b f d
-    end-made p q r = cc
-accepts_row EndOfEmpty identity key question room answer v roomy asks row =
-    let s = row.status in
-    bare_right EndOfEmpty identity key question room answer s evidence.EndOfEmpty v roomy row.signed.sized asks refl refl refl refl refl refl (λ xs. refl) row.layout
-    (record {
-      tagged = one_tagged s row.signed;
-      origin = one_origin s row.signed;
-      fresh = holds _ (WrongNonce 0) (from_same _ _ row.nonce);
-      numbered = holds _ (WrongNumbers 0) (and_from _ _ (eq-eqb _ _ row.stands) (eq-eqb _ _ row.empty));
-      digested = refl;
-      told = ap (λ z. learnt EndOfEmpty 0 z 0 0) row.empty ∙ sym row.told;
-    })
+    read : Read right.kind i k q a v
+    read = row_read right.kind i k q a v right.row
+
+    is_form : Form q.asked a right.kind
+    is_form = form_of right.kind right.answers read
+
+    of : (rule : Rule) → rules.Read rule i k q read.text read.evidence → OfKind rule i k q a
+    of rule kept = of_kind rule i k q a right.kind is_form (subst (λ t. rules.Read rule i k q t (evidence_in right.kind (drop answer_head a))) (sym read.reads.text_is) (subst (λ e. rules.Read rule i k q read.text e) (sym read.reads.shown) kept))
+
+    holds : (rule : Rule) → Holds i k q n a rule
+    holds room = right.roomy
+    holds size = (read.reads.long, read.reads.total_is)
+    holds form = (right.kind, is_form)
+    holds tag = of tag read.keeps.tagged
+    holds origin = of origin read.keeps.origin_is
+    holds nonce = of nonce read.keeps.fresh
+    holds numbers = of numbers read.keeps.shows
+    holds digest = of digest read.keeps.digested

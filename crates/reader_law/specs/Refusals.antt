@@ -4,6 +4,7 @@ use Rattle.digest.specs.Hmac.{hmac}
 use Rattle.statement.specs.declared.types.SignedStatement.{SignedStatement}
 use Rattle.statement.specs.Layout.{encoded}
 use Rattle.notice.specs.declared.answer.Kind.{Kind}
+use Rattle.notice.specs.Limits.{answer_head}
 use Rattle.notice.specs.Answer.{number_of_kind, statements_of, answer_length}
 use Rattle.reader.specs.declared.types.Asked.{Asked}
 use Rattle.reader.specs.declared.types.Question.{Question}
@@ -14,7 +15,7 @@ use Rattle.reader.specs.declared.evidence.Evidence.TheVariants.{Found, Skipped, 
 use Rattle.reader.specs.Faults.{number_of}
 use Rattle.reader.specs.Evidence.{evidence_in, text_in, first_of, second_of}
 use Rattle.reader.specs.Rules.{counter_for}
-use Rattle.reader.specs.Verdict.{answers_to, right_size, position_of}
+use Rattle.reader.specs.Verdict.{working_size, answers_to, right_size, position_of}
 use Rattle.reader_law.specs.Rows.{Advance, Status, Nonce, DigestRule}
 
 pub data Rule : Type 0 where
@@ -106,12 +107,12 @@ Read digest identity key question text e = Digested question.queue text e
 abbrev pub OfKind : Rule → List ℕ → List ℕ → Question → List ℕ → Type 0
 OfKind rule identity key question answer =
     (kind : Kind) → Form question.asked answer kind →
-    Read rule identity key question (text_in kind (drop 3 answer)) (evidence_in kind (drop 3 answer))
+    Read rule identity key question (text_in kind (drop answer_head answer)) (evidence_in kind (drop answer_head answer))
 
 abbrev pub Holds : List ℕ → List ℕ → Question → ℕ → List ℕ → Rule → Type 0
-Holds identity key question n answer room = 64 ≤ n
+Holds identity key question n answer room = working_size ≤ n
 Holds identity key question n answer size =
-    (3 ≤ length answer) × (length answer ≡ answer_length (slice_index answer 0) (slice_index answer 1) (slice_index answer 2))
+    (answer_head ≤ length answer) × (length answer ≡ answer_length (slice_index answer 0) (slice_index answer 1) (slice_index answer 2))
 Holds identity key question n answer form = (kind : Kind) × Form question.asked answer kind
 Holds identity key question n answer tag = OfKind tag identity key question answer
 Holds identity key question n answer origin = OfKind origin identity key question answer

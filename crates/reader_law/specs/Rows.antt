@@ -7,11 +7,12 @@ use Rattle.statement.specs.declared.types.SignedStatement.{SignedStatement}
 use Rattle.statement.specs.Layout.{encoded, SizedSigned}
 use Rattle.notice.specs.declared.answer.Kind.{Kind}
 use Rattle.notice.specs.declared.answer.Kind.TheVariants.{Found, Skipped, Forgotten, NotYet, End, EndOfEmpty}
-use Rattle.notice.specs.Answer.{answer_bytes}
+use Rattle.notice.specs.Limits.{previous_size, text_limit}
+use Rattle.notice.specs.Answer.{answer_bytes, head_length}
 use Rattle.notice.specs.Input.{digest_input}
 use Rattle.reader.specs.declared.types.Question.{Question}
 use Rattle.reader.specs.declared.types.Verdict.{Verdict}
-use Rattle.reader.specs.Verdict.{answers_to, position_of, learnt}
+use Rattle.reader.specs.Verdict.{working_size, answers_to, position_of, verdict_with}
 
 -- The dongle of that identity and key signed the statement, and it is of that counter.
 pub record SignedBy (identity key : List ℕ) (counter : ℕ) (s : SignedStatement) : Type 0 where
@@ -49,13 +50,13 @@ pub record FoundRow (identity key : List ℕ) (question : Question) (answer : Li
   pub previous : List ℕ
   pub text : List ℕ
   pub layout : answer ≡ answer_bytes Found (advance ∷ []) previous text
-  pub previous_bytes : length previous ≡ 32
-  pub short : length text ≤ 200
+  pub previous_bytes : length previous ≡ previous_size
+  pub short : length text ≤ text_limit
   pub signed : SignedBy identity key (high question.queue) advance
   pub advances : Advance advance.statement
   pub reaches : advance.statement.new ≡ position_of question.asked
   pub digest : DigestRule question.queue advance.statement previous text
-  pub told : v ≡ learnt Found (position_of question.asked) 0 116 (length text)
+  pub says : v ≡ verdict_with Found (position_of question.asked) 0 (head_length Found) (length text)
 
 -- Skipped: an advance that passes over the position.
 pub record SkippedRow (identity key : List ℕ) (question : Question) (answer : List ℕ) (v : Verdict) : Type 0 where
@@ -65,7 +66,7 @@ pub record SkippedRow (identity key : List ℕ) (question : Question) (answer : 
   pub advances : Advance advance.statement
   pub from_below : advance.statement.old < position_of question.asked
   pub to_above : position_of question.asked < advance.statement.new
-  pub told : v ≡ learnt Skipped (position_of question.asked) 0 0 0
+  pub says : v ≡ verdict_with Skipped (position_of question.asked) 0 0 0
 
 -- Forgotten: a status of the low counter, above the position.
 pub record ForgottenRow (identity key : List ℕ) (question : Question) (answer : List ℕ) (v : Verdict) : Type 0 where
@@ -75,7 +76,7 @@ pub record ForgottenRow (identity key : List ℕ) (question : Question) (answer 
   pub nonce : Nonce question.nonce status.statement
   pub stands : Status status.statement
   pub above : position_of question.asked < status.statement.new
-  pub told : v ≡ learnt Forgotten (position_of question.asked) 0 0 0
+  pub says : v ≡ verdict_with Forgotten (position_of question.asked) 0 0 0
 
 -- Not yet: a status of the high counter, below the position.
 pub record NotYetRow (identity key : List ℕ) (question : Question) (answer : List ℕ) (v : Verdict) : Type 0 where
@@ -85,7 +86,7 @@ pub record NotYetRow (identity key : List ℕ) (question : Question) (answer : L
   pub nonce : Nonce question.nonce status.statement
   pub stands : Status status.statement
   pub below : status.statement.new < position_of question.asked
-  pub told : v ≡ learnt NotYet (position_of question.asked) status.statement.new 0 0
+  pub says : v ≡ verdict_with NotYet (position_of question.asked) status.statement.new 0 0
 
 -- End: a status of the high counter, at 1 or more, and the advance that led there, with its text.
 pub record EndRow (identity key : List ℕ) (question : Question) (answer : List ℕ) (v : Verdict) : Type 0 where
@@ -94,8 +95,8 @@ pub record EndRow (identity key : List ℕ) (question : Question) (answer : List
   pub previous : List ℕ
   pub text : List ℕ
   pub layout : answer ≡ answer_bytes End (status ∷ advance ∷ []) previous text
-  pub previous_bytes : length previous ≡ 32
-  pub short : length text ≤ 200
+  pub previous_bytes : length previous ≡ previous_size
+  pub short : length text ≤ text_limit
   pub signed : SignedBy identity key (high question.queue) status
   pub also_signed : SignedBy identity key (high question.queue) advance
   pub nonce : Nonce question.nonce status.statement
@@ -104,7 +105,7 @@ pub record EndRow (identity key : List ℕ) (question : Question) (answer : List
   pub advances : Advance advance.statement
   pub reaches : advance.statement.new ≡ status.statement.new
   pub digest : DigestRule question.queue advance.statement previous text
-  pub told : v ≡ learnt End status.statement.new status.statement.new 197 (length text)
+  pub says : v ≡ verdict_with End status.statement.new status.statement.new (head_length End) (length text)
 
 -- End of empty: a status of the high counter, at 0.
 pub record EndOfEmptyRow (identity key : List ℕ) (question : Question) (answer : List ℕ) (v : Verdict) : Type 0 where
@@ -114,7 +115,7 @@ pub record EndOfEmptyRow (identity key : List ℕ) (question : Question) (answer
   pub nonce : Nonce question.nonce status.statement
   pub stands : Status status.statement
   pub empty : status.statement.new ≡ 0
-  pub told : v ≡ learnt EndOfEmpty 0 0 0 0
+  pub says : v ≡ verdict_with EndOfEmpty 0 0 0 0
 
 abbrev pub Row : Kind → List ℕ → List ℕ → Question → List ℕ → Verdict → Type 0
 Row Found = FoundRow
@@ -124,10 +125,10 @@ Row NotYet = NotYetRow
 Row End = EndRow
 Row EndOfEmpty = EndOfEmptyRow
 
--- An answer that a reader with a working area of that room accepts, and what he is told: its kind answers the question,
+-- An answer that a reader with a working area of that room accepts, and what the verdict says: its kind answers the question,
 -- and it keeps every rule of its kind's row.
 pub record Right (identity key : List ℕ) (question : Question) (room : ℕ) (answer : List ℕ) (v : Verdict) : Type 0 where
-  pub roomy : 64 ≤ room
+  pub roomy : working_size ≤ room
   pub kind : Kind
   pub answers : answers_to question.asked kind ≡ true
   pub row : Row kind identity key question answer v

@@ -10,20 +10,7 @@ ghost use Rattle.reader_law.specs.Refusals.{Rule, refusal, FirstFailing, number_
 
 use reader::{Challenge, Reader, ReaderFault, Verdict};
 
-// The check, with what it answers.
-fn checked(
-    reader: &Reader,
-    challenge: Challenge,
-    answer: &[u8],
-    working: &mut [u8],
-) -> Result<Verdict, ReaderFault>
-    ensures answers { result ≡ verdict reader.now.identity reader.now.key challenge.question (length working.old) answer.now }
-    ensures working { working.new ≡ wiped working.old }
-{
-    reader.check(challenge, answer, working)
-}
-
-/// Checks an answer as `Reader::check` does. It is accepted, and that is told of it, exactly where the answer is
+/// Checks an answer as `Reader::check` does. It is accepted, with that verdict, exactly where the answer is
 /// the layout of its fields and keeps every rule of its kind's row; a refusal has the number of the first rule that
 /// fails.
 pub fn check_by_the_rules(
@@ -39,5 +26,5 @@ pub fn check_by_the_rules(
     ensures first { (rule : Rule) → FirstFailing reader.now.identity reader.now.key challenge.question (length working.old) answer.now rule → number_told result ≡ refusal rule }
     ensures working { working.new ≡ wiped working.old }
 {
-    checked(reader, challenge, answer, working)
+    reader.check(challenge, answer, working)
 }
