@@ -10,7 +10,7 @@ use Rattle.store.proofs.Sets.{records_push, records_append, records_take, record
 use Rattle.slotstore.specs.declared.row.Row.{Row}
 use Rattle.slotstore.specs.Rows.{free_row, row_of}
 use Rattle.slotstore.specs.Slots.{padded, slotted, in_slots, rolled, SoundSlots}
-use Rattle.slotstore.proofs.Images.{image_sound, sound_parts, length-in_slots, length-slotted, slotted-append}
+use Rattle.slotstore.proofs.Images.{Holds, image_holds, sound_parts, length-in_slots, length-slotted, slotted-append}
 use Rattle.slotstore.proofs.Blocks.{before-slot, after-slot, record-bytes, slot-bytes, slot-written}
 
 -- the row of a slot in use is that of its record
@@ -25,35 +25,42 @@ sound_row area rows slots used k s h =
     ∙ (get_or_append_left (map row_of rs) (replicate (slots - used) free_row ++ drop slots rows) free_row k (omega arith)
     ∙ get_or-map row_of rs k [] free_row (omega arith))
 
--- the bytes that a row tells are its record, and lie within the area
+-- what a row tells of the bytes of its slot
+pub record TellsRecord (area : List ℕ) (row : Row) (k : ℕ) (r : Bytes) : Type 0 where
+  pub size : row.length ≡ length r
+  pub bytes : take row.length (drop (320 * k) area) ≡ r
+  pub within : 320 * k + row.length ≤ length area
+  pub short : length r ≤ 314
+  pub place : k < 200
+  pub good : is_record r ≡ true
+
 pub sound_record :
     (area : List ℕ) (rows : List Row) (slots used k : ℕ) → SoundSlots area rows slots used → k < used →
-    (take (get_or rows k free_row).length (drop (320 * k) area) ≡ get_or (in_slots used rows area) k [])
-    × ((get_or rows k free_row).length ≡ length (get_or (in_slots used rows area) k []))
-    × (320 * k + (get_or rows k free_row).length ≤ length area)
-    × (is_record (get_or (in_slots used rows area) k []) ≡ true)
+    TellsRecord area (get_or rows k free_row) k (get_or (in_slots used rows area) k [])
 sound_record area rows slots used k s h =
     let rs = in_slots used rows area in
     let n = length-in_slots used rows area in
     let r = get_or rs k [] in
-    let good = record_at rs k (omega arith) s.6 in
+    let good = record_at rs k (omega arith) s.good in
     let e : (get_or rows k free_row).length ≡ length r = ap (λ z. z.length) (sound_row area rows slots used k s h) in
-    let parts = sound_parts area rows slots used s in (
-      ap (λ m. take m (drop (320 * k) area)) e
-          ∙ (ap (λ z. take (length r) (drop (320 * k) z)) parts.0
-          ∙ record-bytes rs (replicate (320 * (slots - used)) 0 ++ drop (320 * slots) area) k (omega arith) s.6),
-      e,
-      omega (arith, e, record_short r good, s.2, s.3),
-      good,
-    )
+    record {
+      size = e;
+      bytes =
+          ap (λ m. take m (drop (320 * k) area)) e
+          ∙ (ap (λ z. take (length r) (drop (320 * k) z)) (sound_parts area rows slots used s).0
+          ∙ record-bytes rs (replicate (320 * (slots - used)) 0 ++ drop (320 * slots) area) k (omega arith) s.good);
+      within = omega (arith, e, record_short r good, s.few, s.enough_bytes);
+      short = record_short r good;
+      place = omega (arith, s.few, s.limited);
+      good = good;
+    }
 
 -- a record put into the next slot
 pub appended :
     (area area' : List ℕ) (rows rows' : List Row) (slots used : ℕ) (r : Bytes) → SoundSlots area rows slots used →
     is_record r ≡ true → spanned (in_slots used rows area) r ≡ false → used < slots →
     area' ≡ (take (320 * used) area ++ r) ++ drop (320 * used + length r) area → rows' ≡ set rows used (row_of r) →
-    SoundSlots area' rows' slots (used + 1) × (in_slots (used + 1) rows' area' ≡ in_slots used rows area ++ r ∷ [])
-    × (drop (320 * slots) area' ≡ drop (320 * slots) area) × (drop slots rows' ≡ drop slots rows)
+    Holds (in_slots used rows area ++ r ∷ []) area' (drop (320 * slots) area) rows' (drop slots rows) slots (used + 1)
 appended area area' rows rows' slots used r s good free fits e f =
     let rs = in_slots used rows area in
     let n = length r in
@@ -63,7 +70,7 @@ appended area area' rows rows' slots used r s good free fits e f =
     let count = length-in_slots used rows area in
     let parts = sound_parts area rows slots used s in
     let zeros : List ℕ = replicate (320 * (slots - used)) 0 in
-    let l : length (slotted rs) ≡ 320 * used = length-slotted rs s.6 ∙ ap (λ k. 320 * k) count in
+    let l : length (slotted rs) ≡ 320 * used = length-slotted rs s.good ∙ ap (λ k. 320 * k) count in
     let t : take (320 * used) area ≡ slotted rs = ap (take (320 * used)) parts.0 ∙ take_at (slotted rs) (zeros ++ bytes) (320 * used) l in
     let d0 : drop (320 * used) area ≡ zeros ++ bytes = ap (drop (320 * used)) parts.0 ∙ drop_at (slotted rs) (zeros ++ bytes) (320 * used) l in
     let lz : length zeros ≡ 320 * (slots - used) = length-replicate (320 * (slots - used)) 0 in
@@ -92,8 +99,8 @@ appended area area' rows rows' slots used r s good free fits e f =
     ∙ (ap (λ z. map row_of rs ++ set (replicate z free_row ++ others) 0 (row_of r)) m
     ∙ (sym (append_assoc (map row_of rs) (row_of r ∷ []) (replicate (slots - (used + 1)) free_row ++ others))
     ∙ ap (λ z. z ++ (replicate (slots - (used + 1)) free_row ++ others)) (sym (map-append row_of rs (r ∷ [])))))))) in
-    image_sound (rs ++ r ∷ []) area' bytes rows' others slots (used + 1) a b
-    (sym (length_push rs r ∙ ap (λ z. z + 1) count)) (omega arith) s.5 (records_push rs r s.6 good) (apart_push rs r s.7 free)
+    image_holds (rs ++ r ∷ []) area' bytes rows' others slots (used + 1) a b
+    (sym (length_push rs r ∙ ap (λ z. z + 1) count)) (omega arith) s.limited (records_push rs r s.good good) (apart_push rs r s.apart free)
 
 -- the list after the element at a place took the value of the last one, which is left out
 pub taken_over :
@@ -154,9 +161,7 @@ pub vacated :
     area' ≡ (take (320 * i) area ++ take 320 (drop (320 * last) area)) ++ drop (320 * i + 320) area →
     area'' ≡ (take (320 * last) area' ++ replicate 320 0) ++ drop (320 * last + 320) area' →
     rows'' ≡ set (set rows i (get_or rows last free_row)) last free_row →
-    SoundSlots area'' rows'' slots last
-    × (in_slots last rows'' area'' ≡ take i (in_slots used rows area) ++ rolled (drop (i + 1) (in_slots used rows area)))
-    × (drop (320 * slots) area'' ≡ drop (320 * slots) area) × (drop slots rows'' ≡ drop slots rows)
+    Holds (take i (in_slots used rows area) ++ rolled (drop (i + 1) (in_slots used rows area))) area'' (drop (320 * slots) area) rows'' (drop slots rows) slots last
 vacated area area' area'' rows rows'' slots used i last s u le e g f =
     let rs = in_slots used rows area in
     let count : length rs ≡ last + 1 = length-in_slots used rows area ∙ u in
@@ -168,18 +173,18 @@ vacated area area' area'' rows rows'' slots used i last s u le e g f =
     let zs : List ℕ = replicate (320 * (slots - used)) 0 ++ bytes in
     let ws : List Row = replicate (slots - used) free_row ++ others in
     let parts = sound_parts area rows slots used s in
-    let gy : is_record y ≡ true = record_at rs last (omega arith) s.6 in
+    let gy : is_record y ≡ true = record_at rs last (omega arith) s.good in
     let j : suc i ≡ i + 1 = omega arith in
     let is_set : set rs i y ≡ l1 = set_split rs i y (omega arith) ∙ ap (λ k. take i rs ++ y ∷ drop k rs) j in
     let n1 : length l1 ≡ last + 1 = ap length (sym is_set) ∙ (length-set rs i y ∙ count) in
-    let good1 : Records l1 = records_append (take i rs) (y ∷ drop (i + 1) rs) (records_take i rs s.6) (and_from _ _ gy (records_drop (i + 1) rs s.6)) in
+    let good1 : Records l1 = records_append (take i rs) (y ∷ drop (i + 1) rs) (records_take i rs s.good) (and_from _ _ gy (records_drop (i + 1) rs s.good)) in
     let whole : area ≡ slotted rs ++ zs = parts.0 in
     let a1 : area' ≡ slotted l1 ++ zs =
     e ∙ (ap (λ z. (take (320 * i) z ++ take 320 (drop (320 * last) z)) ++ drop (320 * i + 320) z) whole
-    ∙ (ap (λ z. (take (320 * i) (slotted rs ++ zs) ++ z) ++ drop (320 * i + 320) (slotted rs ++ zs)) (slot-bytes rs zs last (omega arith) s.6)
-    ∙ slot-written rs zs i (omega arith) s.6 y)) in
+    ∙ (ap (λ z. (take (320 * i) (slotted rs ++ zs) ++ z) ++ drop (320 * i + 320) (slotted rs ++ zs)) (slot-bytes rs zs last (omega arith) s.good)
+    ∙ slot-written rs zs i (omega arith) s.good y)) in
     let none : drop (last + 1) l1 ≡ [] = drop_all (last + 1) l1 (omega arith) in
-    let k : 320 + 320 * (slots - used) ≡ 320 * (slots - last) = omega (arith, s.2) in
+    let k : 320 + 320 * (slots - used) ≡ 320 * (slots - last) = omega (arith, s.few) in
     let a2 : area'' ≡ slotted ks ++ (replicate (320 * (slots - last)) 0 ++ bytes) =
     g ∙ (ap (λ z. (take (320 * last) z ++ replicate 320 0) ++ drop (320 * last + 320) z) a1
     ∙ (ap (λ z. (z ++ replicate 320 0) ++ drop (320 * last + 320) (slotted l1 ++ zs)) (before-slot l1 zs last (omega arith) good1)
@@ -199,7 +204,7 @@ vacated area area' area'' rows rows'' slots used i last s u le e g f =
     ∙ ap (λ z. z ++ ws) (sym (map-set row_of rs i y) ∙ ap (map row_of) is_set))) in
     let lm1 : length (map row_of l1) ≡ last + 1 = length-map l1 row_of ∙ n1 in
     let tail : drop (suc last) (map row_of l1) ≡ [] = drop_all (suc last) (map row_of l1) (omega arith) in
-    let m : slots - last ≡ suc (slots - used) = omega (arith, s.2) in
+    let m : slots - last ≡ suc (slots - used) = omega (arith, s.few) in
     let b2 : rows'' ≡ map row_of ks ++ (replicate (slots - last) free_row ++ others) =
     f ∙ (ap (λ z. set z last free_row) r1
     ∙ (set-append_left (map row_of l1) ws last free_row (omega arith)
@@ -207,7 +212,7 @@ vacated area area' area'' rows rows'' slots used i last s u le e g f =
     ∙ (append_assoc (map row_of ks) (free_row ∷ []) ws
     ∙ ap (λ z. map row_of ks ++ (replicate z free_row ++ others)) (sym m))))) in
     let moved = taken_over rs i last count le in
-    let r =
-    image_sound ks area'' bytes rows'' others slots last a2 b2 (sym (length-take-le last l1 (omega arith))) (omega (arith, s.2)) s.5
-    (records_take last l1 good1) (subst (λ z. Apart (take last z)) is_set (apart_taken rs i last count le s.7)) in
-    (r.0, r.1 ∙ moved, r.2, r.3)
+    let m2 =
+    image_holds ks area'' bytes rows'' others slots last a2 b2 (sym (length-take-le last l1 (omega arith))) (omega (arith, s.few)) s.limited
+    (records_take last l1 good1) (subst (λ z. Apart (take last z)) is_set (apart_taken rs i last count le s.apart)) in
+    record { sound = m2.sound; held = m2.held ∙ moved; past = m2.past; others = m2.others }

@@ -47,14 +47,29 @@ pub length-in_slots : (n : ℕ) (rows : List Row) (area : List ℕ) → length (
 length-in_slots zero rows area = refl
 length-in_slots (suc n) rows area = ap suc (length-in_slots n (drop 1 rows) (drop 320 area))
 
--- an area and rows with slots of records in them are sound
-pub image_sound :
+pub length-slots_of : (slots : ℕ) (rs : List Bytes) → Records rs → length rs ≤ slots → length (slots_of slots rs) ≡ 320 * slots
+length-slots_of slots rs good le =
+    length-append (slotted rs) (replicate (320 * (slots - length rs)) 0)
+    ∙ omega (arith, length-slotted rs good, length-replicate {A = ℕ} (320 * (slots - length rs)) 0)
+
+pub length-rows_of : (slots : ℕ) (rs : List Bytes) → length rs ≤ slots → length (rows_of slots rs) ≡ slots
+length-rows_of slots rs le =
+    length-append (map row_of rs) (replicate (slots - length rs) free_row)
+    ∙ omega (arith, length-map rs row_of, length-replicate (slots - length rs) free_row)
+
+-- slots that hold the records, with these bytes and rows past them
+pub record Holds (rs : List Bytes) (area bytes : List ℕ) (rows more : List Row) (slots used : ℕ) : Type 0 where
+  pub sound : SoundSlots area rows slots used
+  pub held : in_slots used rows area ≡ rs
+  pub past : drop (320 * slots) area ≡ bytes
+  pub others : drop slots rows ≡ more
+
+pub image_holds :
     (rs : List Bytes) (area bytes : List ℕ) (rows others : List Row) (slots used : ℕ) →
     area ≡ slotted rs ++ (replicate (320 * (slots - used)) 0 ++ bytes) →
     rows ≡ map row_of rs ++ (replicate (slots - used) free_row ++ others) →
-    used ≡ length rs → used ≤ slots → slots ≤ 200 → Records rs → Apart rs →
-    SoundSlots area rows slots used × (in_slots used rows area ≡ rs) × (drop (320 * slots) area ≡ bytes) × (drop slots rows ≡ others)
-image_sound rs area bytes rows others slots used e f n le lim good apart =
+    used ≡ length rs → used ≤ slots → slots ≤ 200 → Records rs → Apart rs → Holds rs area bytes rows others slots used
+image_holds rs area bytes rows others slots used e f n le lim good apart =
     let zs = replicate (320 * (slots - used)) 0 ++ bytes in
     let ws = replicate (slots - used) free_row ++ others in
     let p : in_slots used rows area ≡ rs =
@@ -63,29 +78,30 @@ image_sound rs area bytes rows others slots used e f n le lim good apart =
     let a : area ≡ (slotted rs ++ replicate (320 * (slots - used)) 0) ++ bytes = e ∙ sym (append_assoc (slotted rs) (replicate (320 * (slots - used)) 0) bytes) in
     let b : rows ≡ (map row_of rs ++ replicate (slots - used) free_row) ++ others = f ∙ sym (append_assoc (map row_of rs) (replicate (slots - used) free_row) others) in
     let la : length (slotted rs ++ replicate (320 * (slots - used)) 0) ≡ 320 * slots =
-    length-append (slotted rs) (replicate (320 * (slots - used)) 0)
-    ∙ omega (arith, length-slotted rs good, length-replicate {A = ℕ} (320 * (slots - used)) 0) in
+    ap (λ k. length (slotted rs ++ replicate (320 * (slots - k)) 0)) n ∙ length-slots_of slots rs good (omega arith) in
     let lb : length (map row_of rs ++ replicate (slots - used) free_row) ≡ slots =
-    length-append (map row_of rs) (replicate (slots - used) free_row)
-    ∙ omega (arith, length-map rs row_of, length-replicate (slots - used) free_row) in
+    ap (λ k. length (map row_of rs ++ replicate (slots - k) free_row)) n ∙ length-rows_of slots rs (omega arith) in
     let da : drop (320 * slots) area ≡ bytes = ap (drop (320 * slots)) a ∙ drop_at (slotted rs ++ replicate (320 * (slots - used)) 0) bytes (320 * slots) la in
     let db : drop slots rows ≡ others = ap (drop slots) b ∙ drop_at (map row_of rs ++ replicate (slots - used) free_row) others slots lb in
     let ma = ap length a ∙ length-append (slotted rs ++ replicate (320 * (slots - used)) 0) bytes in
-    let mb = ap length b ∙ length-append (map row_of rs ++ replicate (slots - used) free_row) others in (
-      (
-        a ∙ (ap (λ k. (slotted rs ++ replicate (320 * (slots - k)) 0) ++ bytes) n ∙ (ap (λ z. slots_of slots z ++ bytes) (sym p) ∙ ap (λ z. slots_of slots (in_slots used rows area) ++ z) (sym da))),
-        b ∙ (ap (λ k. (map row_of rs ++ replicate (slots - k) free_row) ++ others) n ∙ (ap (λ z. rows_of slots z ++ others) (sym p) ∙ ap (λ z. rows_of slots (in_slots used rows area) ++ z) (sym db))),
-        le,
-        omega (arith, ma, la),
-        omega (arith, mb, lb),
-        lim,
-        subst Records (sym p) good,
-        subst Apart (sym p) apart,
-      ),
-      p,
-      da,
-      db,
-    )
+    let mb = ap length b ∙ length-append (map row_of rs ++ replicate (slots - used) free_row) others in
+    record {
+      sound = record {
+        bytes =
+            a ∙ (ap (λ k. (slotted rs ++ replicate (320 * (slots - k)) 0) ++ bytes) n ∙ (ap (λ z. slots_of slots z ++ bytes) (sym p) ∙ ap (λ z. slots_of slots (in_slots used rows area) ++ z) (sym da)));
+        told =
+            b ∙ (ap (λ k. (map row_of rs ++ replicate (slots - k) free_row) ++ others) n ∙ (ap (λ z. rows_of slots z ++ others) (sym p) ∙ ap (λ z. rows_of slots (in_slots used rows area) ++ z) (sym db)));
+        few = le;
+        enough_bytes = omega (arith, ma, la);
+        enough_rows = omega (arith, mb, lb);
+        limited = lim;
+        good = subst Records (sym p) good;
+        apart = subst Apart (sym p) apart;
+      };
+      held = p;
+      past = da;
+      others = db;
+    }
 
 -- sound slots as their records and what follows
 pub sound_parts :
@@ -95,9 +111,9 @@ pub sound_parts :
 sound_parts area rows slots used s =
     let rs = in_slots used rows area in
     let n = length-in_slots used rows area in (
-      s.0 ∙ (append_assoc (slotted rs) (replicate (320 * (slots - length rs)) 0) (drop (320 * slots) area)
+      s.bytes ∙ (append_assoc (slotted rs) (replicate (320 * (slots - length rs)) 0) (drop (320 * slots) area)
           ∙ ap (λ k. slotted rs ++ (replicate (320 * (slots - k)) 0 ++ drop (320 * slots) area)) n),
-      s.1 ∙ (append_assoc (map row_of rs) (replicate (slots - length rs) free_row) (drop slots rows)
+      s.told ∙ (append_assoc (map row_of rs) (replicate (slots - length rs) free_row) (drop slots rows)
           ∙ ap (λ k. map row_of rs ++ (replicate (slots - k) free_row ++ drop slots rows)) n),
     )
 
