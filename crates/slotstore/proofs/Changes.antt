@@ -7,9 +7,10 @@ use Rattle.notice.specs.Record.{is_record, covers}
 use Rattle.notice.proofs.Records.{record_short}
 use Rattle.store.specs.Meaning.{Bytes, Records, Apart, spanned}
 use Rattle.store.proofs.Sets.{records_push, records_append, records_take, records_drop, record_at, apart_push}
+use Rattle.notice.specs.Limits.{record_limit}
 use Rattle.slotstore.specs.declared.row.Row.{Row}
 use Rattle.slotstore.specs.Rows.{free_row, row_of}
-use Rattle.slotstore.specs.Slots.{padded, slotted, in_slots, rolled, SoundSlots}
+use Rattle.slotstore.specs.Slots.{slot_limit, slot_size, padded, slotted, in_slots, rolled, SoundSlots}
 use Rattle.slotstore.proofs.Images.{Holds, image_holds, sound_parts, length-in_slots, length-slotted, slotted-append}
 use Rattle.slotstore.proofs.Blocks.{before-slot, after-slot, record-bytes, slot-bytes, slot-written}
 
@@ -28,10 +29,10 @@ sound_row area rows slots used k s h =
 -- what a row tells of the bytes of its slot
 pub record TellsRecord (area : List ℕ) (row : Row) (k : ℕ) (r : Bytes) : Type 0 where
   pub size : row.length ≡ length r
-  pub bytes : take row.length (drop (320 * k) area) ≡ r
-  pub within : 320 * k + row.length ≤ length area
-  pub short : length r ≤ 314
-  pub place : k < 200
+  pub bytes : take row.length (drop (slot_size * k) area) ≡ r
+  pub within : slot_size * k + row.length ≤ length area
+  pub short : length r ≤ record_limit
+  pub place : k < slot_limit
   pub good : is_record r ≡ true
 
 pub sound_record :
@@ -46,9 +47,9 @@ sound_record area rows slots used k s h =
     record {
       size = e;
       bytes =
-          ap (λ m. take m (drop (320 * k) area)) e
-          ∙ (ap (λ z. take (length r) (drop (320 * k) z)) (sound_parts area rows slots used s).0
-          ∙ record-bytes rs (replicate (320 * (slots - used)) 0 ++ drop (320 * slots) area) k (omega arith) s.good);
+          ap (λ m. take m (drop (slot_size * k) area)) e
+          ∙ (ap (λ z. take (length r) (drop (slot_size * k) z)) (sound_parts area rows slots used s).0
+          ∙ record-bytes rs (replicate (slot_size * (slots - used)) 0 ++ drop (slot_size * slots) area) k (omega arith) s.good);
       within = omega (arith, e, record_short r good, s.few, s.enough_bytes);
       short = record_short r good;
       place = omega (arith, s.few, s.limited);
@@ -59,36 +60,36 @@ sound_record area rows slots used k s h =
 pub appended :
     (area area' : List ℕ) (rows rows' : List Row) (slots used : ℕ) (r : Bytes) → SoundSlots area rows slots used →
     is_record r ≡ true → spanned (in_slots used rows area) r ≡ false → used < slots →
-    area' ≡ (take (320 * used) area ++ r) ++ drop (320 * used + length r) area → rows' ≡ set rows used (row_of r) →
-    Holds (in_slots used rows area ++ r ∷ []) area' (drop (320 * slots) area) rows' (drop slots rows) slots (used + 1)
+    area' ≡ (take (slot_size * used) area ++ r) ++ drop (slot_size * used + length r) area → rows' ≡ set rows used (row_of r) →
+    Holds (in_slots used rows area ++ r ∷ []) area' (drop (slot_size * slots) area) rows' (drop slots rows) slots (used + 1)
 appended area area' rows rows' slots used r s good free fits e f =
     let rs = in_slots used rows area in
     let n = length r in
     let short = record_short r good in
-    let bytes = drop (320 * slots) area in
+    let bytes = drop (slot_size * slots) area in
     let others = drop slots rows in
     let count = length-in_slots used rows area in
     let parts = sound_parts area rows slots used s in
-    let zeros : List ℕ = replicate (320 * (slots - used)) 0 in
-    let l : length (slotted rs) ≡ 320 * used = length-slotted rs s.good ∙ ap (λ k. 320 * k) count in
-    let t : take (320 * used) area ≡ slotted rs = ap (take (320 * used)) parts.0 ∙ take_at (slotted rs) (zeros ++ bytes) (320 * used) l in
-    let d0 : drop (320 * used) area ≡ zeros ++ bytes = ap (drop (320 * used)) parts.0 ∙ drop_at (slotted rs) (zeros ++ bytes) (320 * used) l in
-    let lz : length zeros ≡ 320 * (slots - used) = length-replicate (320 * (slots - used)) 0 in
-    let k : 320 * (slots - used) - n ≡ (320 - n) + 320 * (slots - (used + 1)) = omega arith in
-    let d : drop (320 * used + n) area ≡ replicate (320 - n) 0 ++ (replicate (320 * (slots - (used + 1))) 0 ++ bytes) =
-    sym (drop-drop n (320 * used) area)
+    let zeros : List ℕ = replicate (slot_size * (slots - used)) 0 in
+    let l : length (slotted rs) ≡ slot_size * used = length-slotted rs s.good ∙ ap (λ k. slot_size * k) count in
+    let t : take (slot_size * used) area ≡ slotted rs = ap (take (slot_size * used)) parts.0 ∙ take_at (slotted rs) (zeros ++ bytes) (slot_size * used) l in
+    let d0 : drop (slot_size * used) area ≡ zeros ++ bytes = ap (drop (slot_size * used)) parts.0 ∙ drop_at (slotted rs) (zeros ++ bytes) (slot_size * used) l in
+    let lz : length zeros ≡ slot_size * (slots - used) = length-replicate (slot_size * (slots - used)) 0 in
+    let k : slot_size * (slots - used) - n ≡ (slot_size - n) + slot_size * (slots - (used + 1)) = omega arith in
+    let d : drop (slot_size * used + n) area ≡ replicate (slot_size - n) 0 ++ (replicate (slot_size * (slots - (used + 1))) 0 ++ bytes) =
+    sym (drop-drop n (slot_size * used) area)
     ∙ (ap (drop n) d0
     ∙ (drop-append-le n zeros bytes (omega arith)
-    ∙ (ap (λ z. z ++ bytes) (drop-replicate n (320 * (slots - used)) 0 ∙ (ap (λ m. replicate m 0) k ∙ sym (replicate-append-replicate (320 - n) (320 * (slots - (used + 1))) 0)))
-    ∙ append_assoc (replicate (320 - n) 0) (replicate (320 * (slots - (used + 1))) 0) bytes))) in
-    let zs = replicate (320 * (slots - (used + 1))) 0 ++ bytes in
-    let last : slotted (r ∷ []) ≡ r ++ replicate (320 - n) 0 = append-nil (padded r) in
+    ∙ (ap (λ z. z ++ bytes) (drop-replicate n (slot_size * (slots - used)) 0 ∙ (ap (λ m. replicate m 0) k ∙ sym (replicate-append-replicate (slot_size - n) (slot_size * (slots - (used + 1))) 0)))
+    ∙ append_assoc (replicate (slot_size - n) 0) (replicate (slot_size * (slots - (used + 1))) 0) bytes))) in
+    let zs = replicate (slot_size * (slots - (used + 1))) 0 ++ bytes in
+    let last : slotted (r ∷ []) ≡ r ++ replicate (slot_size - n) 0 = append-nil (padded r) in
     let a : area' ≡ slotted (rs ++ r ∷ []) ++ zs =
-    e ∙ (ap (λ z. (z ++ r) ++ drop (320 * used + n) area) t
+    e ∙ (ap (λ z. (z ++ r) ++ drop (slot_size * used + n) area) t
     ∙ (ap (λ z. (slotted rs ++ r) ++ z) d
-    ∙ (append_assoc (slotted rs) r (replicate (320 - n) 0 ++ zs)
-    ∙ (ap (λ z. slotted rs ++ z) (sym (append_assoc r (replicate (320 - n) 0) zs))
-    ∙ (sym (append_assoc (slotted rs) (r ++ replicate (320 - n) 0) zs)
+    ∙ (append_assoc (slotted rs) r (replicate (slot_size - n) 0 ++ zs)
+    ∙ (ap (λ z. slotted rs ++ z) (sym (append_assoc r (replicate (slot_size - n) 0) zs))
+    ∙ (sym (append_assoc (slotted rs) (r ++ replicate (slot_size - n) 0) zs)
     ∙ ap (λ z. z ++ zs) (ap (λ z. slotted rs ++ z) (sym last) ∙ sym (slotted-append rs (r ∷ [])))))))) in
     let lm : length (map row_of rs) ≡ used = length-map rs row_of ∙ count in
     let m : slots - used ≡ suc (slots - (used + 1)) = omega arith in
@@ -158,19 +159,19 @@ apart_taken rs i last n le h q p =
 pub vacated :
     (area area' area'' : List ℕ) (rows rows'' : List Row) (slots used i last : ℕ) → SoundSlots area rows slots used →
     used ≡ last + 1 → i ≤ last →
-    area' ≡ (take (320 * i) area ++ take 320 (drop (320 * last) area)) ++ drop (320 * i + 320) area →
-    area'' ≡ (take (320 * last) area' ++ replicate 320 0) ++ drop (320 * last + 320) area' →
+    area' ≡ (take (slot_size * i) area ++ take slot_size (drop (slot_size * last) area)) ++ drop (slot_size * i + slot_size) area →
+    area'' ≡ (take (slot_size * last) area' ++ replicate slot_size 0) ++ drop (slot_size * last + slot_size) area' →
     rows'' ≡ set (set rows i (get_or rows last free_row)) last free_row →
-    Holds (take i (in_slots used rows area) ++ rolled (drop (i + 1) (in_slots used rows area))) area'' (drop (320 * slots) area) rows'' (drop slots rows) slots last
+    Holds (take i (in_slots used rows area) ++ rolled (drop (i + 1) (in_slots used rows area))) area'' (drop (slot_size * slots) area) rows'' (drop slots rows) slots last
 vacated area area' area'' rows rows'' slots used i last s u le e g f =
     let rs = in_slots used rows area in
     let count : length rs ≡ last + 1 = length-in_slots used rows area ∙ u in
     let y = get_or rs last [] in
     let l1 = take i rs ++ y ∷ drop (i + 1) rs in
     let ks = take last l1 in
-    let bytes = drop (320 * slots) area in
+    let bytes = drop (slot_size * slots) area in
     let others = drop slots rows in
-    let zs : List ℕ = replicate (320 * (slots - used)) 0 ++ bytes in
+    let zs : List ℕ = replicate (slot_size * (slots - used)) 0 ++ bytes in
     let ws : List Row = replicate (slots - used) free_row ++ others in
     let parts = sound_parts area rows slots used s in
     let gy : is_record y ≡ true = record_at rs last (omega arith) s.good in
@@ -180,19 +181,19 @@ vacated area area' area'' rows rows'' slots used i last s u le e g f =
     let good1 : Records l1 = records_append (take i rs) (y ∷ drop (i + 1) rs) (records_take i rs s.good) (and_from _ _ gy (records_drop (i + 1) rs s.good)) in
     let whole : area ≡ slotted rs ++ zs = parts.0 in
     let a1 : area' ≡ slotted l1 ++ zs =
-    e ∙ (ap (λ z. (take (320 * i) z ++ take 320 (drop (320 * last) z)) ++ drop (320 * i + 320) z) whole
-    ∙ (ap (λ z. (take (320 * i) (slotted rs ++ zs) ++ z) ++ drop (320 * i + 320) (slotted rs ++ zs)) (slot-bytes rs zs last (omega arith) s.good)
+    e ∙ (ap (λ z. (take (slot_size * i) z ++ take slot_size (drop (slot_size * last) z)) ++ drop (slot_size * i + slot_size) z) whole
+    ∙ (ap (λ z. (take (slot_size * i) (slotted rs ++ zs) ++ z) ++ drop (slot_size * i + slot_size) (slotted rs ++ zs)) (slot-bytes rs zs last (omega arith) s.good)
     ∙ slot-written rs zs i (omega arith) s.good y)) in
     let none : drop (last + 1) l1 ≡ [] = drop_all (last + 1) l1 (omega arith) in
-    let k : 320 + 320 * (slots - used) ≡ 320 * (slots - last) = omega (arith, s.few) in
-    let a2 : area'' ≡ slotted ks ++ (replicate (320 * (slots - last)) 0 ++ bytes) =
-    g ∙ (ap (λ z. (take (320 * last) z ++ replicate 320 0) ++ drop (320 * last + 320) z) a1
-    ∙ (ap (λ z. (z ++ replicate 320 0) ++ drop (320 * last + 320) (slotted l1 ++ zs)) (before-slot l1 zs last (omega arith) good1)
-    ∙ (ap (λ z. (slotted ks ++ replicate 320 0) ++ z) (after-slot l1 zs last (omega arith) good1 ∙ ap (λ z. slotted z ++ zs) none)
-    ∙ (append_assoc (slotted ks) (replicate 320 0) zs
+    let k : slot_size + slot_size * (slots - used) ≡ slot_size * (slots - last) = omega (arith, s.few) in
+    let a2 : area'' ≡ slotted ks ++ (replicate (slot_size * (slots - last)) 0 ++ bytes) =
+    g ∙ (ap (λ z. (take (slot_size * last) z ++ replicate slot_size 0) ++ drop (slot_size * last + slot_size) z) a1
+    ∙ (ap (λ z. (z ++ replicate slot_size 0) ++ drop (slot_size * last + slot_size) (slotted l1 ++ zs)) (before-slot l1 zs last (omega arith) good1)
+    ∙ (ap (λ z. (slotted ks ++ replicate slot_size 0) ++ z) (after-slot l1 zs last (omega arith) good1 ∙ ap (λ z. slotted z ++ zs) none)
+    ∙ (append_assoc (slotted ks) (replicate slot_size 0) zs
     ∙ ap (λ z. slotted ks ++ z)
-    (sym (append_assoc (replicate 320 0) (replicate (320 * (slots - used)) 0) bytes)
-    ∙ ap (λ z. z ++ bytes) (replicate-append-replicate 320 (320 * (slots - used)) 0 ∙ ap (λ m. replicate m 0) k)))))) in
+    (sym (append_assoc (replicate slot_size 0) (replicate (slot_size * (slots - used)) 0) bytes)
+    ∙ ap (λ z. z ++ bytes) (replicate-append-replicate slot_size (slot_size * (slots - used)) 0 ∙ ap (λ m. replicate m 0) k)))))) in
     let lm : length (map row_of rs) ≡ last + 1 = length-map rs row_of ∙ count in
     let x : get_or rows last free_row ≡ row_of y =
     ap (λ z. get_or z last free_row) parts.1

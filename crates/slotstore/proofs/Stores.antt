@@ -11,7 +11,7 @@ use Rattle.store.specs.Meaning.{Bytes, any_meets, spanned, found, stays}
 use Rattle.slotstore.specs.declared.row.Row.{Row}
 use Rattle.slotstore.specs.declared.slots.SlotStore.{SlotStore}
 use Rattle.slotstore.specs.Rows.{free_row, row_of, row_span}
-use Rattle.slotstore.specs.Slots.{slots_of, rows_of, slot_space, slot_copied, slot_freed, rolled, in_slots, SoundSlots}
+use Rattle.slotstore.specs.Slots.{slot_size, slots_of, rows_of, slot_space, slot_copied, slot_freed, rolled, in_slots, SoundSlots}
 use Rattle.slotstore.specs.SlotStores.{slot_area, slot_rows, slot_count, slot_held, slot_fits, Kept}
 use Rattle.slotstore.proofs.Images.{Holds, sound_rows, length-in_slots, length-slots_of, length-rows_of}
 use Rattle.slotstore.proofs.RowLists.{covering_row, row_below, meeting_row, found_at_position}
@@ -59,13 +59,13 @@ pub record Becomes (s : SlotStore) (area : List ℕ) (rows : List Row) (used : �
   pub shows : in_slots used rows area ≡ held
   pub bytes : length area ≡ length (slot_area s)
   pub count : length rows ≡ length (slot_rows s)
-  pub past : drop (320 * slot_count s) area ≡ drop (320 * slot_count s) (slot_area s)
+  pub past : drop (slot_size * slot_count s) area ≡ drop (slot_size * slot_count s) (slot_area s)
   pub others : drop (slot_count s) rows ≡ drop (slot_count s) (slot_rows s)
 
 becomes :
     (s : SlotStore) (area : List ℕ) (rows : List Row) (used u : ℕ) (held : List Bytes) → used ≡ u →
     length area ≡ length (slot_area s) → length rows ≡ length (slot_rows s) →
-    Holds held area (drop (320 * slot_count s) (slot_area s)) rows (drop (slot_count s) (slot_rows s)) (slot_count s) u →
+    Holds held area (drop (slot_size * slot_count s) (slot_area s)) rows (drop (slot_count s) (slot_rows s)) (slot_count s) u →
     Becomes s area rows used held
 becomes s area rows used u held e la lr m =
     let n : slot_space (length area) (length rows) ≡ slot_count s = rw (la, lr) in
@@ -81,7 +81,7 @@ becomes s area rows used u held e la lr m =
 pub put_store :
     (s : SlotStore) (area : List ℕ) (rows : List Row) (used n : ℕ) (r : Bytes) → is_record r ≡ true →
     spanned (slot_held s) r ≡ false → slot_fits s n ≡ true →
-    area ≡ (take (320 * s.used) (slot_area s) ++ r) ++ drop (320 * s.used + length r) (slot_area s) →
+    area ≡ (take (slot_size * s.used) (slot_area s) ++ r) ++ drop (slot_size * s.used + length r) (slot_area s) →
     rows ≡ set (slot_rows s) s.used (row_of r) → used ≡ s.used + 1 →
     length area ≡ length (slot_area s) → length rows ≡ length (slot_rows s) → Becomes s area rows used (slot_held s ++ r ∷ [])
 put_store s area rows used n r good free fits e f u la lr =
@@ -107,7 +107,7 @@ store_kept s t held m =
     record {
       slots = n;
       area =
-          t.sound.bytes ∙ (ap (λ k. slots_of k (slot_held t) ++ drop (320 * k) (slot_area t)) n ∙ ap (λ z. slots_of (slot_count s) (slot_held t) ++ z) m.past);
+          t.sound.bytes ∙ (ap (λ k. slots_of k (slot_held t) ++ drop (slot_size * k) (slot_area t)) n ∙ ap (λ z. slots_of (slot_count s) (slot_held t) ++ z) m.past);
       rows =
           t.sound.told ∙ (ap (λ k. rows_of k (slot_held t) ++ drop k (slot_rows t)) n ∙ ap (λ z. rows_of (slot_count s) (slot_held t) ++ z) m.others);
       fitting = λ k. ap (λ u. ltb u (slot_count t)) (sym (length-slot_held t)) ∙ ap (ltb (length (slot_held t))) n;
@@ -124,14 +124,14 @@ kept-trans a b c k m =
     let n = slot_count a in
     let rs = slot_held b in
     let few : length rs ≤ n = omega (arith, length-slot_held b, b.sound.few, k.slots) in
-    let d : drop (320 * n) (slot_area b) ≡ drop (320 * n) (slot_area a) =
-    ap (drop (320 * n)) k.area ∙ drop_at (slots_of n rs) (drop (320 * n) (slot_area a)) (320 * n) (length-slots_of n rs b.sound.good few) in
+    let d : drop (slot_size * n) (slot_area b) ≡ drop (slot_size * n) (slot_area a) =
+    ap (drop (slot_size * n)) k.area ∙ drop_at (slots_of n rs) (drop (slot_size * n) (slot_area a)) (slot_size * n) (length-slots_of n rs b.sound.good few) in
     let g : drop n (slot_rows b) ≡ drop n (slot_rows a) =
     ap (drop n) k.rows ∙ drop_at (rows_of n rs) (drop n (slot_rows a)) n (length-rows_of n rs few) in
     record {
       slots = m.slots ∙ k.slots;
       area =
-          m.area ∙ (ap (λ j. slots_of j (slot_held c) ++ drop (320 * j) (slot_area b)) k.slots ∙ ap (λ z. slots_of n (slot_held c) ++ z) d);
+          m.area ∙ (ap (λ j. slots_of j (slot_held c) ++ drop (slot_size * j) (slot_area b)) k.slots ∙ ap (λ z. slots_of n (slot_held c) ++ z) d);
       rows =
           m.rows ∙ (ap (λ j. rows_of j (slot_held c) ++ drop j (slot_rows b)) k.slots ∙ ap (λ z. rows_of n (slot_held c) ++ z) g);
       fitting = λ j. m.fitting j ∙ ap (ltb (length (slot_held c))) k.slots;

@@ -9,7 +9,7 @@ use notice::{RECORD_LIMIT, Span};
 use store::{Store, StoreFault};
 
 /// Records in slots of equal size, those in use first, each told by its row. Both the slots and the rows are lent.
-// A row stands beside its slot, not in it: rows are a lent slice of structs, which their lender reads.
+// Rows lie beside the slots, in a lent slice of structs and not in the slots' bytes: their lender reads them as rows.
 #[derive(Drop)]
 pub struct SlotStore<'a> {
     area: &'a mut [u8],
@@ -34,8 +34,8 @@ impl<'a> SlotStore<'a> {
     pub fn open(area: &'a mut [u8], rows: &'a mut [Row]) -> SlotStore<'a>
         ensures answers { slot_held result ≡ [] }
         ensures slots { slot_count result ≡ slot_space (length area.old) (length rows.old) }
-        ensures area { slot_area result ≡ replicate (slot_size * slot_space (length area.old) (length rows.old)) 0 ++ drop (slot_size * slot_space (length area.old) (length rows.old)) area.old }
-        ensures rows { slot_rows result ≡ replicate (slot_space (length area.old) (length rows.old)) free_row ++ drop (slot_space (length area.old) (length rows.old)) rows.old }
+        ensures area { let slots = slot_space (length area.old) (length rows.old) in slot_area result ≡ replicate (slot_size * slots) 0 ++ drop (slot_size * slots) area.old }
+        ensures rows { let slots = slot_space (length area.old) (length rows.old) in slot_rows result ≡ replicate slots free_row ++ drop slots rows.old }
     {
         if is_slot_area(area.len(), rows.len()) {
             area.fill(0);

@@ -1,4 +1,5 @@
 use Rattle.std.proofs.Common.{◌≡◌, ◌+◌, ◌-◌, ◌*◌, length, take, drop, get_or, ap, ◌∙◌, arith, rules}
+use Rattle.slotstore.specs.Slots.{slot_size}
 use Rattle.slotstore.specs.Rows.{free_row}
 use Rattle.slotstore.specs.SlotStores.{slot_area, slot_rows}
 use Rattle.slotstore.proofs.Stores.{told_record}
@@ -14,7 +15,7 @@ pub returns : goal.returns
 returns c =
     let s = c.args.self.now in
     let t = told_record s c.args.index c.requires in
-    let at = 320 * c.args.index in
+    let at = slot_size * c.args.index in
     let n = (get_or (slot_rows s) c.args.index free_row).length in
     let k : (at + n) - at ≡ n = omega arith in
     let e = ap (λ m. take m (drop at (slot_area s))) k ∙ t.bytes in
