@@ -1,8 +1,9 @@
 -- Slots stay sound when a record is put into the next one, and when one takes the contents of the last.
-use Rattle.std.proofs.Common.{◌≡◌, ℕ, suc, ◌+◌, ◌-◌, ◌*◌, ◌<◌, ◌≤◌, true, false, cond, List, [], ◌∷◌, ◌++◌, map, length, get_or, take, drop, set, replicate, sum_by, sym, ap, ◌∙◌, subst, ⊎_elim, append_assoc, arith, take-add}
-use Rattle.std.proofs.lemmas.List.{append-nil, drop_all, drop_at, drop-append-le, drop-drop, drop_more, drop-replicate, get_or_append_left, get_or-drop, get_or-map, get_or-set_same, get_or-set_other, length-drop, length-map, length_push, length-replicate, length-set, length-take-le, map-append, map-set, replicate-append-replicate, set-append_left, set-append_right, set_split, take_all, take_at, take-map}
-use Rattle.std.proofs.lemmas.List.Sums.{sum_by_more, sum_by-set}
-use Rattle.std.proofs.lemmas.Bool.{and_from, cases_eq}
+use Rattle.std.proofs.Common.{◌≡◌, ℕ, suc, ◌+◌, ◌-◌, ◌*◌, ◌<◌, ◌≤◌, true, false, cond, List, [], ◌∷◌, ◌++◌, map, length, get_or, take, drop, set, replicate, sym, ap, ◌∙◌, subst, append_assoc, arith}
+use Rattle.std.proofs.lemmas.List.{append-nil, drop_all, drop_at, drop-append-le, drop-drop, drop-replicate, get_or_append_left, get_or-map, length-map, length_push, length-replicate, length-set, length-take-le, map-append, map-set, replicate-append-replicate, set-append_left, set-append_right, set_split, take_at, take-map}
+use Rattle.std.specs.List.{swap_remove}
+use Rattle.std.proofs.lemmas.List.Sums.{sum_by-swap_remove}
+use Rattle.std.proofs.lemmas.Bool.{and_from}
 use Rattle.notice.specs.Record.{is_record, covers}
 use Rattle.notice.proofs.Records.{record_short}
 use Rattle.store.specs.Meaning.{Bytes, Records, Apart, spanned}
@@ -10,7 +11,7 @@ use Rattle.store.proofs.Sets.{records_push, records_append, records_take, record
 use Rattle.notice.specs.Limits.{record_limit}
 use Rattle.slotstore.specs.declared.row.Row.{Row}
 use Rattle.slotstore.specs.Rows.{free_row, row_of}
-use Rattle.slotstore.specs.Slots.{slot_limit, slot_size, padded, slotted, in_slots, rolled, SoundSlots}
+use Rattle.slotstore.specs.Slots.{slot_limit, slot_size, padded, slotted, in_slots, SoundSlots}
 use Rattle.slotstore.proofs.Images.{Holds, image_holds, sound_parts, length-in_slots, length-slotted, slotted-append}
 use Rattle.slotstore.proofs.Blocks.{before-slot, after-slot, record-bytes, slot-bytes, slot-written}
 
@@ -103,57 +104,9 @@ appended area area' rows rows' slots used r s good free fits e f =
     image_holds (rs ++ r ∷ []) area' bytes rows' others slots (used + 1) a b
     (sym (length_push rs r ∙ ap (λ z. z + 1) count)) (omega arith) s.limited (records_push rs r s.good good) (apart_push rs r s.apart free)
 
--- the list after the element at a place took the value of the last one, which is left out
-pub taken_over :
-    (rs : List Bytes) (i last : ℕ) → length rs ≡ last + 1 → i ≤ last →
-    take last (take i rs ++ get_or rs last [] ∷ drop (i + 1) rs) ≡ take i rs ++ rolled (drop (i + 1) rs)
-taken_over rs i last n le =
-    let y = get_or rs last [] in
-    let b = drop (i + 1) rs in
-    let li : length (take i rs) ≡ i = length-take-le i rs (omega arith) in
-    let lb : length b ≡ last - i = length-drop (i + 1) rs ∙ omega arith in
-    let k : i + (last - i) ≡ last = omega arith in
-    let front : take last (take i rs ++ y ∷ b) ≡ take i rs ++ take (last - i) (y ∷ b) =
-    ap (λ m. take m (take i rs ++ y ∷ b)) (sym k)
-    ∙ (take-add i (last - i) (take i rs ++ y ∷ b)
-    ∙ (ap (λ z. z ++ take (last - i) (drop i (take i rs ++ y ∷ b))) (take_at (take i rs) (y ∷ b) i li)
-    ∙ ap (λ z. take i rs ++ take (last - i) z) (drop_at (take i rs) (y ∷ b) i li))) in
-    front ∙ ap (λ z. take i rs ++ z) (⊎_elim none some (cases_eq (last - i) 0))
-  where
-    none : last - i ≡ 0 → take (last - i) (get_or rs last [] ∷ drop (i + 1) rs) ≡ rolled (drop (i + 1) rs)
-    none z =
-        let e : drop (i + 1) rs ≡ [] = drop_all (i + 1) rs (omega arith) in
-        ap (λ m. take m (get_or rs last [] ∷ drop (i + 1) rs)) z ∙ ap rolled (sym e)
-
-    some : (last - i ≡ 0 → ⊥) → take (last - i) (get_or rs last [] ∷ drop (i + 1) rs) ≡ rolled (drop (i + 1) rs)
-    some ne =
-        let b = drop (i + 1) rs in
-        let lb : length b ≡ last - i = length-drop (i + 1) rs ∙ omega arith in
-        let m = length b - 1 in
-        let p : last - i ≡ suc m = omega arith in
-        let g : get_or b m [] ≡ get_or rs last [] = get_or-drop (i + 1) rs m [] ∙ ap (λ j. get_or rs j []) (omega arith) in
-        let d : drop m b ≡ get_or rs last [] ∷ [] =
-        drop_more b m [] (omega arith) ∙ (ap (λ z. z ∷ drop (m + 1) b) g ∙ ap (λ z. get_or rs last [] ∷ z) (drop_all (m + 1) b (omega arith))) in
-        ap (λ j. take j (get_or rs last [] ∷ b)) p ∙ ap (λ z. z ++ take m b) (sym d)
-
 -- no two share a position after one took the place of another
-apart_taken : (rs : List Bytes) (i last : ℕ) → length rs ≡ last + 1 → i ≤ last → Apart rs → Apart (take last (set rs i (get_or rs last [])))
-apart_taken rs i last n le h q p =
-    let f : Bytes → ℕ = λ x. cond (covers q p x) 1 0 in
-    let y = get_or rs last [] in
-    let l1 = set rs i y in
-    let a = sum_by-set f rs i y [] (omega arith) in
-    let b = sum_by_more f l1 last [] (omega (arith, length-set rs i y)) in
-    let c = ap (sum_by f) (take_all (last + 1) l1 (omega (arith, length-set rs i y))) in
-    let g : get_or l1 last [] ≡ y =
-    ⊎_elim
-    same
-    (λ ne. get_or-set_other rs i last y [] (λ e. ne (sym e)))
-    (cases_eq i last) in
-    omega (arith, h q p, a, b, c, ap f g)
-  where
-    same : i ≡ last → get_or (set rs i (get_or rs last [])) last [] ≡ get_or rs last []
-    same e = ap (λ k. get_or (set rs i (get_or rs last [])) k []) (sym e) ∙ get_or-set_same rs i (get_or rs last []) [] (omega arith)
+apart_swapped : (rs : List Bytes) (i : ℕ) → i < length rs → Apart rs → Apart (swap_remove rs i [])
+apart_swapped rs i h g q p = omega (arith, g q p, sum_by-swap_remove (λ x. cond (covers q p x) 1 0) rs i [] h)
 
 -- a slot takes the contents of the last one, whose bytes and row are zeroed
 pub vacated :
@@ -162,7 +115,7 @@ pub vacated :
     area' ≡ (take (slot_size * i) area ++ take slot_size (drop (slot_size * last) area)) ++ drop (slot_size * i + slot_size) area →
     area'' ≡ (take (slot_size * last) area' ++ replicate slot_size 0) ++ drop (slot_size * last + slot_size) area' →
     rows'' ≡ set (set rows i (get_or rows last free_row)) last free_row →
-    Holds (take i (in_slots used rows area) ++ rolled (drop (i + 1) (in_slots used rows area))) area'' (drop (slot_size * slots) area) rows'' (drop slots rows) slots last
+    Holds (swap_remove (in_slots used rows area) i []) area'' (drop (slot_size * slots) area) rows'' (drop slots rows) slots last
 vacated area area' area'' rows rows'' slots used i last s u le e g f =
     let rs = in_slots used rows area in
     let count : length rs ≡ last + 1 = length-in_slots used rows area ∙ u in
@@ -212,8 +165,9 @@ vacated area area' area'' rows rows'' slots used i last s u le e g f =
     ∙ (ap (λ z. z ++ ws) (set_split (map row_of l1) last free_row (omega arith) ∙ (ap (λ z. z ++ free_row ∷ drop (suc last) (map row_of l1)) (take-map row_of last l1) ∙ ap (λ z. map row_of ks ++ free_row ∷ z) tail))
     ∙ (append_assoc (map row_of ks) (free_row ∷ []) ws
     ∙ ap (λ z. map row_of ks ++ (replicate z free_row ++ others)) (sym m))))) in
-    let moved = taken_over rs i last count le in
+    let one : length rs - 1 ≡ last = omega arith in
+    let moved : swap_remove rs i [] ≡ ks = ap (λ n. take n (set rs i (get_or rs n []))) one ∙ ap (take last) is_set in
     let m2 =
     image_holds ks area'' bytes rows'' others slots last a2 b2 (sym (length-take-le last l1 (omega arith))) (omega (arith, s.few)) s.limited
-    (records_take last l1 good1) (subst (λ z. Apart (take last z)) is_set (apart_taken rs i last count le s.apart)) in
-    record { sound = m2.sound; held = m2.held ∙ moved; past = m2.past; others = m2.others }
+    (records_take last l1 good1) (subst Apart moved (apart_swapped rs i (omega arith) s.apart)) in
+    record { sound = m2.sound; held = m2.held ∙ sym moved; past = m2.past; others = m2.others }

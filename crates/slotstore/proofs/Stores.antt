@@ -1,6 +1,6 @@
 -- A slot store seen by its rows, and what a change of its area, rows and number in use makes of it.
 use Rattle.std.proofs.Common.{◌≡◌, ℕ, ◌+◌, ◌-◌, ◌*◌, ◌<◌, ◌≤◌, true, false, not, ltb, List, [], ◌∷◌, ◌++◌, map, length, get_or, take, drop, set, Option, sym, refl, ap, ◌∙◌, arith}
-use Rattle.std.specs.List.{list_any, position}
+use Rattle.std.specs.List.{list_any, position, swap_remove}
 use Rattle.std.specs.Option.{option_map}
 use Rattle.std.proofs.lemmas.List.{drop_at, drop-map, drop-take}
 use Rattle.std.proofs.lemmas.Bool.{ltb-true}
@@ -11,7 +11,7 @@ use Rattle.store.specs.Meaning.{Bytes, any_meets, spanned, found, stays}
 use Rattle.slotstore.specs.declared.row.Row.{Row}
 use Rattle.slotstore.specs.declared.slots.SlotStore.{SlotStore}
 use Rattle.slotstore.specs.Rows.{free_row, row_of, row_span}
-use Rattle.slotstore.specs.Slots.{slot_size, slots_of, rows_of, slot_space, slot_copied, slot_freed, rolled, in_slots, SoundSlots}
+use Rattle.slotstore.specs.Slots.{slot_size, slots_of, rows_of, slot_space, slot_copied, slot_freed, in_slots, SoundSlots}
 use Rattle.slotstore.specs.SlotStores.{slot_area, slot_rows, slot_count, slot_held, slot_fits, Kept}
 use Rattle.slotstore.proofs.Images.{Holds, sound_rows, length-in_slots, length-slots_of, length-rows_of}
 use Rattle.slotstore.proofs.RowLists.{covering_row, row_below, meeting_row, found_at_position}
@@ -93,9 +93,9 @@ pub vacate_store :
     area ≡ slot_freed (s.used - 1) (slot_copied (s.used - 1) i (slot_area s)) →
     rows ≡ set (set (slot_rows s) i (get_or (slot_rows s) (s.used - 1) free_row)) (s.used - 1) free_row → used ≡ s.used - 1 →
     length area ≡ length (slot_area s) → length rows ≡ length (slot_rows s) →
-    Becomes s area rows used (take i (slot_held s) ++ rolled (drop (i + 1) (slot_held s)))
+    Becomes s area rows used (swap_remove (slot_held s) i [])
 vacate_store s area rows used i h e f u la lr =
-    becomes s area rows used (s.used - 1) (take i (slot_held s) ++ rolled (drop (i + 1) (slot_held s))) u la lr
+    becomes s area rows used (s.used - 1) (swap_remove (slot_held s) i []) u la lr
     (vacated (slot_area s) (slot_copied (s.used - 1) i (slot_area s)) area (slot_rows s) rows (slot_count s) s.used i (s.used - 1) s.sound
     (omega arith) (omega arith) refl e f)
 

@@ -1,13 +1,13 @@
 -- A sweep over slots, step by step, and what it leaves: the records that stay, in another order.
-use Rattle.std.proofs.Common.{◌≡◌, ℕ, zero, suc, ◌+◌, ◌-◌, ◌<◌, ◌≤◌, Bool, true, false, cond, not, List, [], ◌∷◌, ◌++◌, length, get_or, take, drop, filter, Some, None, Option, sym, refl, ap, ◌∙◌, subst, append_assoc, arith}
+use Rattle.std.proofs.Common.{◌≡◌, ℕ, zero, suc, ◌+◌, ◌-◌, ◌<◌, ◌≤◌, Bool, true, false, cond, not, List, [], ◌∷◌, ◌++◌, length, get_or, take, drop, filter, Some, None, Option, sym, refl, ap, ◌∙◌, subst, ⊎_elim, append_assoc, arith, take-add}
 use Rattle.std.specs.List.Sorted.{IsPermutation}
 use Rattle.std.proofs.lemmas.List.Elements.{filter-append}
-use Rattle.std.specs.List.{position}
+use Rattle.std.specs.List.{position, swap_remove}
 use Rattle.std.specs.Option.{option_map}
 use Rattle.std.proofs.lemmas.List.Quantifiers.{position-Some}
-use Rattle.std.proofs.lemmas.List.{append-nil, drop_at, drop_more, get_or-drop, length-append, length-drop, length-take-le, take_all, take-append-drop, take_at, take_more}
-use Rattle.std.proofs.lemmas.List.Sorted.{IsPermutation-refl, IsPermutation-cons, IsPermutation-to_front, IsPermutation-trans}
-use Rattle.std.proofs.lemmas.Bool.{cond-true, cond-false, not-true, not-false}
+use Rattle.std.proofs.lemmas.List.{append-nil, drop_all, drop_at, drop_more, get_or-drop, set_split, length-append, length-drop, length-take-le, take_all, take-append-drop, take_at, take_more}
+use Rattle.std.proofs.lemmas.List.Sorted.{IsPermutation-append_comm, IsPermutation-cons, IsPermutation-refl, IsPermutation-trans}
+use Rattle.std.proofs.lemmas.Bool.{cases_eq, cond-true, cond-false, not-true, not-false}
 use Rattle.store.specs.Meaning.{Bytes}
 use Rattle.slotstore.specs.Slots.{rolled, swept}
 use Rattle.slotstore.proofs.RowLists.{position-None}
@@ -76,16 +76,56 @@ next_place p rs from at (Some k) e f =
       stay = λ j h. sym (ap p (get_or-drop from rs j [])) ∙ not-false (p (get_or (drop from rs) j [])) (t.2 j (omega arith));
     }
 
+-- the list after the element at a place took the value of the last one, which is left out
+taken_over :
+    (rs : List Bytes) (i last : ℕ) → length rs ≡ last + 1 → i ≤ last →
+    take last (take i rs ++ get_or rs last [] ∷ drop (i + 1) rs) ≡ take i rs ++ rolled (drop (i + 1) rs)
+taken_over rs i last n le =
+    let y = get_or rs last [] in
+    let b = drop (i + 1) rs in
+    let li : length (take i rs) ≡ i = length-take-le i rs (omega arith) in
+    let lb : length b ≡ last - i = length-drop (i + 1) rs ∙ omega arith in
+    let k : i + (last - i) ≡ last = omega arith in
+    let front : take last (take i rs ++ y ∷ b) ≡ take i rs ++ take (last - i) (y ∷ b) =
+    ap (λ m. take m (take i rs ++ y ∷ b)) (sym k)
+    ∙ (take-add i (last - i) (take i rs ++ y ∷ b)
+    ∙ (ap (λ z. z ++ take (last - i) (drop i (take i rs ++ y ∷ b))) (take_at (take i rs) (y ∷ b) i li)
+    ∙ ap (λ z. take i rs ++ take (last - i) z) (drop_at (take i rs) (y ∷ b) i li))) in
+    front ∙ ap (λ z. take i rs ++ z) (⊎_elim none some (cases_eq (last - i) 0))
+  where
+    none : last - i ≡ 0 → take (last - i) (get_or rs last [] ∷ drop (i + 1) rs) ≡ rolled (drop (i + 1) rs)
+    none z =
+        let e : drop (i + 1) rs ≡ [] = drop_all (i + 1) rs (omega arith) in
+        ap (λ m. take m (get_or rs last [] ∷ drop (i + 1) rs)) z ∙ ap rolled (sym e)
+
+    some : (last - i ≡ 0 → ⊥) → take (last - i) (get_or rs last [] ∷ drop (i + 1) rs) ≡ rolled (drop (i + 1) rs)
+    some ne =
+        let b = drop (i + 1) rs in
+        let lb : length b ≡ last - i = length-drop (i + 1) rs ∙ omega arith in
+        let m = length b - 1 in
+        let p : last - i ≡ suc m = omega arith in
+        let g : get_or b m [] ≡ get_or rs last [] = get_or-drop (i + 1) rs m [] ∙ ap (λ j. get_or rs j []) (omega arith) in
+        let d : drop m b ≡ get_or rs last [] ∷ [] =
+        drop_more b m [] (omega arith) ∙ (ap (λ z. z ∷ drop (m + 1) b) g ∙ ap (λ z. get_or rs last [] ∷ z) (drop_all (m + 1) b (omega arith))) in
+        ap (λ j. take j (get_or rs last [] ∷ b)) p ∙ ap (λ z. z ++ take m b) (sym d)
+
+swapped : (rs : List Bytes) (i : ℕ) → i < length rs → swap_remove rs i [] ≡ take i rs ++ rolled (drop (i + 1) rs)
+swapped rs i h =
+    let last = length rs - 1 in
+    let y = get_or rs last [] in
+    let j : suc i ≡ i + 1 = omega arith in
+    ap (take last) (set_split rs i y h ∙ ap (λ k. take i rs ++ y ∷ drop k rs) j) ∙ taken_over rs i last (omega arith) (omega arith)
+
 -- its slot takes the contents of the last one, and is where the sweep goes on
 pub swept_next :
-    (p : Bytes → Bool) (rs ss : List Bytes) (from at : ℕ) → Next p rs from at → ss ≡ take at rs ++ rolled (drop (at + 1) rs) →
+    (p : Bytes → Bool) (rs ss : List Bytes) (from at : ℕ) → Next p rs from at → ss ≡ swap_remove rs at [] →
     length rs ≡ length ss + 1 →
     take at ss ++ swept (length ss - at) p (drop at ss) ≡ take from rs ++ swept (length rs - from) p (drop from rs)
 swept_next p rs ss from at m e l =
     let k : from + (at - from) ≡ at = omega (arith, m.above) in
     let inside = m.inside in
     sym (swept_skips p rs from (at - from) (omega arith) (λ j h. m.stay j (omega arith))
-    ∙ (ap (λ n. take n rs ++ swept (length rs - n) p (drop n rs)) k ∙ swept_drops p rs ss at (length ss) m.inside m.fails e l))
+    ∙ (ap (λ n. take n rs ++ swept (length rs - n) p (drop n rs)) k ∙ swept_drops p rs ss at (length ss) m.inside m.fails (e ∙ swapped rs at m.inside) l))
 
 -- no record from a place on has to go
 swept_rest :
@@ -112,18 +152,8 @@ kept_rolled p rs =
     let d = drop m rs in
     let before : filter p rs ≡ filter p c ++ filter p d = ap (filter p) (sym (take-append-drop m rs)) ∙ filter-append p c d in
     let after : filter p (rolled rs) ≡ filter p d ++ filter p c = filter-append p d c in
-    let few : length d ≤ 1 = omega (arith, length-drop m rs) in
     subst (λ z. IsPermutation z (filter p (rolled rs))) (sym before)
-    (subst (IsPermutation (filter p c ++ filter p d)) (sym after) (one d few))
-  where
-    one : (d : List Bytes) → length d ≤ 1 → IsPermutation (filter p (take (length rs - 1) rs) ++ filter p d) (filter p d ++ filter p (take (length rs - 1) rs))
-    one [] h = subst (λ z. IsPermutation z (filter p (take (length rs - 1) rs))) (sym (append-nil (filter p (take (length rs - 1) rs)))) (IsPermutation-refl (filter p (take (length rs - 1) rs)))
-    one (y ∷ []) h =
-        elim (p y) as (λ b. IsPermutation (filter p (take (length rs - 1) rs) ++ cond b (y ∷ []) []) (cond b (y ∷ []) [] ++ filter p (take (length rs - 1) rs))) [
-          | true ↦ IsPermutation-to_front (filter p (take (length rs - 1) rs)) y
-          | false ↦ subst (λ z. IsPermutation z (filter p (take (length rs - 1) rs))) (sym (append-nil (filter p (take (length rs - 1) rs)))) (IsPermutation-refl (filter p (take (length rs - 1) rs)))
-        ]
-    one (y ∷ z ∷ zs) h = absurd (omega arith)
+    (subst (IsPermutation (filter p c ++ filter p d)) (sym after) (IsPermutation-append_comm (filter p c) (filter p d)))
 
 length-rolled : (rs : List Bytes) → length (rolled rs) ≡ length rs
 length-rolled rs =

@@ -20,13 +20,13 @@ pub struct SlotStore<'a> {
 
 impl<'a> SlotStore<'a> {
     ghost use Rattle.std.specs.Prelude.{◌≡◌, ◌*◌, ◌+◌, ◌-◌, ◌<◌, ◌≤◌, true, false, [], ◌∷◌, ◌++◌, take, drop, replicate, if◌then◌else◌, Some, None, not, nat_lt, slice_index_or, option_map};
-    ghost use Rattle.std.specs.List.{position};
+    ghost use Rattle.std.specs.List.{position, swap_remove};
     ghost use Rattle.notice.specs.Limits.{record_limit};
     ghost use Rattle.notice.specs.Record.{is_record};
     ghost use Rattle.store.specs.declared.fault.StoreFault.TheVariants.{WrongArea};
     ghost use Rattle.store.specs.Meaning.{spanned, stays};
     ghost use Rattle.slotstore.specs.Rows.{free_row};
-    ghost use Rattle.slotstore.specs.Slots.{slot_size, is_slot_area, rolled};
+    ghost use Rattle.slotstore.specs.Slots.{slot_size, is_slot_area};
     ghost use Rattle.slotstore.specs.SlotStores.{slot_held, slot_fits, slot_area, slot_rows, slot_count, Kept};
 
     /// Opens a store over as many slots as there are rows, and zeroes both. An area of another size, or too many rows,
@@ -89,7 +89,7 @@ impl<'a> SlotStore<'a> {
     // Gives a slot the contents of the last one in use, and frees that.
     fn vacate(&mut self, index: usize)
         requires { index < self.old.used }
-        ensures becomes { slot_held self.new ≡ take index (slot_held self.old) ++ rolled (drop (index + 1) (slot_held self.old)) }
+        ensures becomes { slot_held self.new ≡ swap_remove (slot_held self.old) index [] }
         ensures fewer { self.new.used + 1 ≡ self.old.used }
         ensures keeps { Kept self.old self.new }
     {
