@@ -5,11 +5,12 @@ use Rattle.std.proofs.lemmas.Bool.{and_from, and_parts, eq-eqb, eqb-true, le-leb
 use Rattle.statement.specs.declared.types.SignedStatement.{SignedStatement}
 use Rattle.statement.specs.Layout.{encoded_signed, decoded_signed, SizedSigned}
 use Rattle.statement.proofs.Layouts.{length-encoded_signed, decoded-encoded_signed}
+use Rattle.notice.specs.Limits.{signed_size, previous_size, text_limit, record_head, record_limit}
 use Rattle.notice.specs.Record.{recorded, signed_of, counter_of, old_of, new_of, previous_of, size_of, text_of, is_record, Tells}
 
 pub length-recorded :
-    (s : SignedStatement) (digest words : List ℕ) → SizedSigned s → length digest ≡ 32 →
-    length (recorded s digest words) ≡ 114 + length words
+    (s : SignedStatement) (digest words : List ℕ) → SizedSigned s → length digest ≡ previous_size →
+    length (recorded s digest words) ≡ record_head + length words
 unfolding recorded
 length-recorded s digest words h d =
     let n = length-encoded_signed s h in
@@ -17,14 +18,14 @@ length-recorded s digest words h d =
 
 -- the parts are read again as they were written
 pub recorded_tells :
-    (s : SignedStatement) (digest words : List ℕ) → SizedSigned s → length digest ≡ 32 →
+    (s : SignedStatement) (digest words : List ℕ) → SizedSigned s → length digest ≡ previous_size →
     Tells s digest words (recorded s digest words)
 unfolding recorded signed_of counter_of old_of new_of previous_of size_of text_of
 recorded_tells s digest words h d =
     let n = length-encoded_signed s h in
     let tail : List ℕ = digest ++ (length words ∷ words) in
     let e : decoded_signed (recorded s digest words) ≡ s = decoded-encoded_signed s tail h in
-    let b : drop 81 (recorded s digest words) ≡ tail = drop_at (encoded_signed s) tail 81 n in
+    let b : drop signed_size (recorded s digest words) ≡ tail = drop_at (encoded_signed s) tail 81 n in
     let k : drop 113 (recorded s digest words) ≡ length words ∷ words =
     sym (drop-drop 32 81 (recorded s digest words)) ∙ (ap (drop 32) b ∙ drop_at digest (length words ∷ words) 32 d) in
     record {
@@ -39,7 +40,7 @@ recorded_tells s digest words h d =
 
 -- a record of the high counter of a queue may be kept
 pub recorded-is_record :
-    (s : SignedStatement) (digest words : List ℕ) → SizedSigned s → length digest ≡ 32 → length words ≤ 200 →
+    (s : SignedStatement) (digest words : List ℕ) → SizedSigned s → length digest ≡ previous_size → length words ≤ text_limit →
     s.statement.counter % 2 ≡ 1 → s.statement.counter ≤ 15 → s.statement.old < s.statement.new →
     is_record (recorded s digest words) ≡ true
 unfolding is_record
@@ -47,16 +48,16 @@ recorded-is_record s digest words h d short odd small rises =
     let t = recorded_tells s digest words h d in
     let n = length-recorded s digest words h d in
     let r = recorded s digest words in
-    and_from _ _ (eq-eqb (length r) (114 + size_of r) (omega (arith, t.size)))
-    (and_from _ _ (le-leb (size_of r) 200 (omega (arith, t.size)))
+    and_from _ _ (eq-eqb (length r) (record_head + size_of r) (omega (arith, t.size)))
+    (and_from _ _ (le-leb (size_of r) text_limit (omega (arith, t.size)))
     (and_from _ _ (eq-eqb (counter_of r % 2) 1 (ap (λ z. z % 2) t.counter ∙ odd))
     (and_from _ _ (le-leb (counter_of r) 15 (omega (arith, t.counter)))
     (lt-ltb (old_of r) (new_of r) (omega (arith, t.old, t.new))))))
 
 -- a record keeps within its limit
-pub record_short : (r : List ℕ) → is_record r ≡ true → length r ≤ 314
+pub record_short : (r : List ℕ) → is_record r ≡ true → length r ≤ record_limit
 unfolding is_record
 record_short r h =
-    let a = and_parts (eqb (length r) (114 + size_of r)) _ h in
-    let b = and_parts (leb (size_of r) 200) _ a.1 in
-    omega (arith, eqb-true (length r) (114 + size_of r) a.0, leb-true (size_of r) 200 b.0)
+    let a = and_parts (eqb (length r) (record_head + size_of r)) _ h in
+    let b = and_parts (leb (size_of r) text_limit) _ a.1 in
+    omega (arith, eqb-true (length r) (record_head + size_of r) a.0, leb-true (size_of r) text_limit b.0)

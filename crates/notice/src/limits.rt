@@ -1,7 +1,6 @@
 // How long texts, records and digest inputs are.
 
-/// A signed statement's bytes.
-pub(crate) const SIGNED_STATEMENT_SIZE: usize = 81;
+use statement::SIGNED_STATEMENT_SIZE;
 
 /// The previous digest's bytes.
 pub const PREVIOUS_SIZE: usize = 32;
@@ -25,4 +24,7 @@ pub const INPUT_LIMIT: usize = INPUT_HEAD + TEXT_LIMIT;
 pub const ANSWER_HEAD: usize = 3;
 
 /// The longest answer: the end's, with two signed statements, the previous digest and a text.
-pub const ANSWER_LIMIT: usize = ANSWER_HEAD + 2 * SIGNED_STATEMENT_SIZE + PREVIOUS_SIZE + TEXT_LIMIT;
+pub const ANSWER_LIMIT: usize = ANSWER_HEAD
+    + 2 * SIGNED_STATEMENT_SIZE
+    + PREVIOUS_SIZE
+    + TEXT_LIMIT;

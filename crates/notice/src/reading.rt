@@ -4,16 +4,18 @@ ghost use Rattle.statement.specs.Layout.{number_at};
 ghost use Rattle.notice.specs.Limits.{signed_size, previous_size};
 ghost use Rattle.notice.specs.Record.{signed_of, counter_of, old_of, new_of, queue_of, span_of, previous_of, size_of, text_of, is_record};
 
-use std::marker::Model;
-
-use super::limits::{PREVIOUS_SIZE, RECORD_HEAD, SIGNED_STATEMENT_SIZE, TEXT_LIMIT};
+use super::limits::{PREVIOUS_SIZE, RECORD_HEAD, TEXT_LIMIT};
 use super::spans::Span;
-use statement::SignedStatement;
+use statement::{Layout, SIGNED_STATEMENT_SIZE, SignedStatement};
+use std::marker::Model;
 
 // Where a signed statement has its counter, old and new, and a record its text length.
 const COUNTER_AT: usize = 8;
+
 const OLD_AT: usize = 9;
+
 const NEW_AT: usize = 13;
+
 const SIZE_AT: usize = SIGNED_STATEMENT_SIZE + PREVIOUS_SIZE;
 
 /// Bytes read as a record. Each method answers for any bytes: past their end it reads 0.
@@ -152,15 +154,9 @@ impl<'a> Record<'a> {
         requires small { at < 256 }
         ensures answers { result ≡ number_at at self.now }
     {
-        let bytes = self.bytes;
-        if at + 4 <= bytes.len() {
-            return u32::from_be_bytes([bytes[at], bytes[at + 1], bytes[at + 2], bytes[at + 3]]);
+        if let Some([first, second, third, fourth, ..]) = self.bytes.get(at..) {
+            return u32::from_be_bytes([*first, *second, *third, *fourth]);
         }
-        u32::from_be_bytes([
-            self.byte_at(at),
-            self.byte_at(at + 1),
-            self.byte_at(at + 2),
-            self.byte_at(at + 3),
-        ])
+        u32::from_be_bytes([at, at + 1, at + 2, at + 3].map(|place| self.byte_at(place)))
     }
 }

@@ -3,25 +3,26 @@ use Rattle.std.proofs.Common.{◌≡◌, ℕ, ◌+◌, ◌<◌, ◌≤◌, leb, 
 use Rattle.std.specs.Option.{option_map}
 use Rattle.std.proofs.lemmas.Bool.{cond-true, cond-false, le-leb, lt-leb}
 use Rattle.statement.proofs.Parts.{whole, grown}
+use Rattle.notice.specs.Limits.{record_limit}
 use Rattle.store.specs.declared.fault.StoreFault.TheVariants.{ShortArea}
 use Rattle.store.specs.Meaning.{Bytes, found, laid_over, covering, covered}
 
 module _ (held : List Bytes) (q p : ℕ) (area : List ℕ) where
-  pub covering-short : length area < 314 → covering held q p area ≡ Err ShortArea
+  pub covering-short : length area < record_limit → covering held q p area ≡ Err ShortArea
   unfolding covering
-  covering-short h = cond-false (leb 314 (length area)) _ _ (lt-leb 314 (length area) h)
+  covering-short h = cond-false (leb record_limit (length area)) _ _ (lt-leb record_limit (length area) h)
 
-  pub covered-short : length area < 314 → covered held q p area ≡ area
+  pub covered-short : length area < record_limit → covered held q p area ≡ area
   unfolding covered
-  covered-short h = cond-false (leb 314 (length area)) _ _ (lt-leb 314 (length area) h)
+  covered-short h = cond-false (leb record_limit (length area)) _ _ (lt-leb record_limit (length area) h)
 
-  pub covering-long : (f : Option Bytes) → found q p held ≡ f → 314 ≤ length area → covering held q p area ≡ Ok (option_map length f)
+  pub covering-long : (f : Option Bytes) → found q p held ≡ f → record_limit ≤ length area → covering held q p area ≡ Ok (option_map length f)
   unfolding covering
-  covering-long f e h = cond-true (leb 314 (length area)) _ _ (le-leb 314 (length area) h) ∙ ap (λ z. Ok (option_map length z)) e
+  covering-long f e h = cond-true (leb record_limit (length area)) _ _ (le-leb record_limit (length area) h) ∙ ap (λ z. Ok (option_map length z)) e
 
-  pub covered-long : (f : Option Bytes) → found q p held ≡ f → 314 ≤ length area → covered held q p area ≡ laid_over f area
+  pub covered-long : (f : Option Bytes) → found q p held ≡ f → record_limit ≤ length area → covered held q p area ≡ laid_over f area
   unfolding covered
-  covered-long f e h = cond-true (leb 314 (length area)) _ _ (le-leb 314 (length area) h) ∙ ap (λ z. laid_over z area) e
+  covered-long f e h = cond-true (leb record_limit (length area)) _ _ (le-leb record_limit (length area) h) ∙ ap (λ z. laid_over z area) e
 
 -- a part put at the front of an area that has room for it
 pub put_front :

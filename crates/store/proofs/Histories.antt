@@ -140,7 +140,7 @@ nothing_else_found changes held q p r l e =
     let f = found_held q p held r e in
     ⊎_elim
     (λ x. absurd (omega (arith, x.0.1)))
-    (λ x. (x.0, x.1, x.2, x.3, f.1))
+    (λ x. (record { before = x.0; later = x.1; put = x.2; kept = x.3 }, f.1))
     (leads_back changes [] held r l f.0)
 
 pub set_decides : SetDecides

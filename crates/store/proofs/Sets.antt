@@ -1,17 +1,13 @@
 -- Sets of records: what put and forget keep, and what is found.
 use Rattle.std.proofs.Common.{◌≡◌, ℕ, zero, suc, ◌<◌, min, max, Bool, true, false, cond, not, eqb, ltb, leb, List, [], ◌∷◌, ◌++◌, length, get_or, take, drop, Some, count_by, filter, sym, refl, ◌∙◌, subst, ⊎_elim, arith}
 use Rattle.std.specs.List.Sorted.{IsPermutation}
+use Rattle.std.proofs.lemmas.List.Folds.{list_all-append}
 use Rattle.std.proofs.lemmas.List.Filters.{sum_by-filter_both}
 use Rattle.std.proofs.lemmas.List.Sorted.{sum_by-IsPermutation}
-use Rattle.std.proofs.lemmas.List.Sums.{sum_by-cons, sum_by_push}
+use Rattle.std.proofs.lemmas.List.Sums.{AllPass-from_list_all, sum_by-cons, sum_by_push}
 use Rattle.std.proofs.lemmas.Bool.{and_parts, and_from, or_parts, both_ways, cases_Bool, cond-true, cond-false, eqb-true, eq-eqb, ltb-true, lt-ltb, leb-true}
 use Rattle.notice.specs.Record.{queue_of, old_of, new_of, span_of, is_record, covers}
 use Rattle.store.specs.Meaning.{Bytes, are_records, Records, Apart, meets, any_meets, spanned, found}
-
-pub records_push : (rs : List Bytes) (r : Bytes) → Records rs → is_record r ≡ true → Records (rs ++ r ∷ [])
-records_push [] r h g = and_from _ _ g refl
-records_push (s ∷ rs) r h g =
-    let a = and_parts (is_record s) (are_records rs) h in and_from _ _ a.0 (records_push rs r a.1 g)
 
 pub records_kept : (p : Bytes → Bool) (rs : List Bytes) → Records rs → Records (filter p rs)
 records_kept p [] h = refl
@@ -80,9 +76,10 @@ found_good q p (s ∷ rs) r h e =
 -- parts of a list of records
 
 pub records_append : (xs ys : List Bytes) → Records xs → Records ys → Records (xs ++ ys)
-records_append [] ys g h = h
-records_append (x ∷ xs) ys g h =
-    let a = and_parts (is_record x) (are_records xs) g in and_from _ _ a.0 (records_append xs ys a.1 h)
+records_append xs ys g h = list_all-append is_record xs ys ∙ and_from _ _ g h
+
+pub records_push : (rs : List Bytes) (r : Bytes) → Records rs → is_record r ≡ true → Records (rs ++ r ∷ [])
+records_push rs r h g = records_append rs (r ∷ []) h (and_from _ _ g refl)
 
 pub records_take : (n : ℕ) (rs : List Bytes) → Records rs → Records (take n rs)
 records_take zero rs g = refl
@@ -96,6 +93,4 @@ records_drop (suc n) [] g = refl
 records_drop (suc n) (r ∷ rs) g = records_drop n rs (and_parts (is_record r) (are_records rs) g).1
 
 pub record_at : (rs : List Bytes) (k : ℕ) → k < length rs → Records rs → is_record (get_or rs k []) ≡ true
-record_at [] k h g = absurd (omega arith)
-record_at (r ∷ rs) zero h g = (and_parts (is_record r) (are_records rs) g).0
-record_at (r ∷ rs) (suc k) h g = record_at rs k (omega arith) (and_parts (is_record r) (are_records rs) g).1
+record_at rs k h g = AllPass-from_list_all is_record rs g k [] h

@@ -22,6 +22,13 @@ outlives [] r = true
 outlives (added s ∷ cs) r = outlives cs r
 outlives (forgot q n ∷ cs) r = stays q n r && outlives cs r
 
+-- the record was put, and no later change forgets it
+pub record WasPut (changes : List Change) (r : Bytes) : Type 0 where
+  pub before : List Change
+  pub later : List Change
+  pub put : changes ≡ before ++ added r ∷ later
+  pub kept : outlives later r ≡ true
+
 abbrev pub FoundUntilForgotten : Type 0
 FoundUntilForgotten =
     (before later : List Change) (r : Bytes) (held : List Bytes) (q p : ℕ) →
@@ -30,8 +37,7 @@ FoundUntilForgotten =
 abbrev pub NothingElseFound : Type 0
 NothingElseFound =
     (changes : List Change) (held : List Bytes) (q p : ℕ) (r : Bytes) →
-    Leads [] changes held → found q p held ≡ Some r →
-    (before : List Change) × (later : List Change) × (changes ≡ before ++ added r ∷ later) × (outlives later r ≡ true) × (covers q p r ≡ true)
+    Leads [] changes held → found q p held ≡ Some r → WasPut changes r × (covers q p r ≡ true)
 
 abbrev pub SetDecides : Type 0
 SetDecides = (rs ss : List Bytes) (q p : ℕ) → Apart rs → IsPermutation rs ss → found q p rs ≡ found q p ss

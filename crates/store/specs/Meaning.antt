@@ -41,8 +41,8 @@ unfoldable pub putting : Bool → List Bytes → Bytes → Result (Unit {0}) Sto
 putting fits held r =
     if is_record r
     then (if spanned held r
-      then Err (AlreadySpanned (counter_of r))
-      else (if fits then Ok tt else Err (DoesNotFit (counter_of r))))
+    then Err (AlreadySpanned (counter_of r))
+    else (if fits then Ok tt else Err (DoesNotFit (counter_of r))))
     else Err BadRecord
 
 -- a record is held after those that were there

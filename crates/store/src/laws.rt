@@ -7,5 +7,4 @@ pub fn found_while_put_and_not_forgotten()
     ensures found { FoundUntilForgotten }
     ensures alone { NothingElseFound }
     ensures set { SetDecides }
-{
-}
+{}
