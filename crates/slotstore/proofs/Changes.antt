@@ -12,7 +12,7 @@ use Rattle.notice.specs.Limits.{record_limit}
 use Rattle.slotstore.specs.declared.row.Row.{Row}
 use Rattle.slotstore.specs.Rows.{free_row, row_of}
 use Rattle.slotstore.specs.Slots.{slot_limit, slot_size, padded, slotted, in_slots, SoundSlots}
-use Rattle.slotstore.proofs.Images.{Holds, image_holds, sound_parts, length-in_slots, length-slotted, slotted-append}
+use Rattle.slotstore.proofs.Images.{Holds, image_holds, sound_parts, length_in_slots, length-slotted, slotted-append}
 use Rattle.slotstore.proofs.Blocks.{before-slot, after-slot, record-bytes, slot-bytes, slot-written}
 
 -- the row of a slot in use is that of its record
@@ -21,7 +21,7 @@ pub sound_row :
     get_or rows k free_row ≡ row_of (get_or (in_slots used rows area) k [])
 sound_row area rows slots used k s h =
     let rs = in_slots used rows area in
-    let n = length-in_slots used rows area in
+    let n = length_in_slots used rows area in
     let lm : length (map row_of rs) ≡ used = length-map rs row_of ∙ n in
     ap (λ z. get_or z k free_row) (sound_parts area rows slots used s).1
     ∙ (get_or_append_left (map row_of rs) (replicate (slots - used) free_row ++ drop slots rows) free_row k (omega arith)
@@ -41,7 +41,7 @@ pub sound_record :
     TellsRecord area (get_or rows k free_row) k (get_or (in_slots used rows area) k [])
 sound_record area rows slots used k s h =
     let rs = in_slots used rows area in
-    let n = length-in_slots used rows area in
+    let n = length_in_slots used rows area in
     let r = get_or rs k [] in
     let good = record_at rs k (omega arith) s.good in
     let e : (get_or rows k free_row).length ≡ length r = ap (λ z. z.length) (sound_row area rows slots used k s h) in
@@ -69,7 +69,7 @@ appended area area' rows rows' slots used r s good free fits e f =
     let short = record_short r good in
     let bytes = drop (slot_size * slots) area in
     let others = drop slots rows in
-    let count = length-in_slots used rows area in
+    let count = length_in_slots used rows area in
     let parts = sound_parts area rows slots used s in
     let zeros : List ℕ = replicate (slot_size * (slots - used)) 0 in
     let l : length (slotted rs) ≡ slot_size * used = length-slotted rs s.good ∙ ap (λ k. slot_size * k) count in
@@ -118,7 +118,7 @@ pub vacated :
     Holds (swap_remove (in_slots used rows area) i []) area'' (drop (slot_size * slots) area) rows'' (drop slots rows) slots last
 vacated area area' area'' rows rows'' slots used i last s u le e g f =
     let rs = in_slots used rows area in
-    let count : length rs ≡ last + 1 = length-in_slots used rows area ∙ u in
+    let count : length rs ≡ last + 1 = length_in_slots used rows area ∙ u in
     let y = get_or rs last [] in
     let l1 = take i rs ++ y ∷ drop (i + 1) rs in
     let ks = take last l1 in

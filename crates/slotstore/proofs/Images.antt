@@ -43,9 +43,9 @@ in_slots_of (r ∷ rs) others zs g =
     ap (λ z. z ∷ in_slots (length rs) rows (drop slot_size (slotted (r ∷ rs) ++ zs))) t
     ∙ (ap (λ z. r ∷ in_slots (length rs) rows z) d ∙ ap (λ z. r ∷ z) (in_slots_of rs others zs a.1))
 
-pub length-in_slots : (n : ℕ) (rows : List Row) (area : List ℕ) → length (in_slots n rows area) ≡ n
-length-in_slots zero rows area = refl
-length-in_slots (suc n) rows area = ap suc (length-in_slots n (drop 1 rows) (drop slot_size area))
+pub length_in_slots : (n : ℕ) (rows : List Row) (area : List ℕ) → length (in_slots n rows area) ≡ n
+length_in_slots zero rows area = refl
+length_in_slots (suc n) rows area = ap suc (length_in_slots n (drop 1 rows) (drop slot_size area))
 
 pub length-slots_of : (slots : ℕ) (rs : List Bytes) → Records rs → length rs ≤ slots → length (slots_of slots rs) ≡ slot_size * slots
 length-slots_of slots rs good le =
@@ -110,7 +110,7 @@ pub sound_parts :
     × (rows ≡ map row_of (in_slots used rows area) ++ (replicate (slots - used) free_row ++ drop slots rows))
 sound_parts area rows slots used s =
     let rs = in_slots used rows area in
-    let n = length-in_slots used rows area in (
+    let n = length_in_slots used rows area in (
       s.bytes ∙ (append_assoc (slotted rs) (replicate (slot_size * (slots - length rs)) 0) (drop (slot_size * slots) area)
           ∙ ap (λ k. slotted rs ++ (replicate (slot_size * (slots - k)) 0 ++ drop (slot_size * slots) area)) n),
       s.told ∙ (append_assoc (map row_of rs) (replicate (slots - length rs) free_row) (drop slots rows)
@@ -121,5 +121,5 @@ sound_parts area rows slots used s =
 pub sound_rows : (area : List ℕ) (rows : List Row) (slots used : ℕ) → SoundSlots area rows slots used → take used rows ≡ map row_of (in_slots used rows area)
 sound_rows area rows slots used s =
     let rs = in_slots used rows area in
-    let n = length-map rs row_of ∙ length-in_slots used rows area in
+    let n = length-map rs row_of ∙ length_in_slots used rows area in
     ap (take used) (sound_parts area rows slots used s).1 ∙ take_at (map row_of rs) (replicate (slots - used) free_row ++ drop slots rows) used n

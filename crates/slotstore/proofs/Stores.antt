@@ -13,14 +13,14 @@ use Rattle.slotstore.specs.declared.slots.SlotStore.{SlotStore}
 use Rattle.slotstore.specs.Rows.{free_row, row_of, row_span}
 use Rattle.slotstore.specs.Slots.{slot_size, slots_of, rows_of, slot_space, slot_copied, slot_freed, in_slots, SoundSlots}
 use Rattle.slotstore.specs.SlotStores.{slot_area, slot_rows, slot_count, slot_held, slot_fits, Kept}
-use Rattle.slotstore.proofs.Images.{Holds, sound_rows, length-in_slots, length-slots_of, length-rows_of}
+use Rattle.slotstore.proofs.Images.{Holds, sound_rows, length_in_slots, length-slots_of, length-rows_of}
 use Rattle.slotstore.proofs.RowLists.{covering_row, row_below, meeting_row, found_at_position}
 use Rattle.slotstore.proofs.Changes.{TellsRecord, sound_record, appended, vacated}
 
 -- What a store shows.
 
 pub length-slot_held : (s : SlotStore) → length (slot_held s) ≡ s.used
-length-slot_held s = length-in_slots s.used (slot_rows s) (slot_area s)
+length-slot_held s = length_in_slots s.used (slot_rows s) (slot_area s)
 
 held_rows : (s : SlotStore) → take s.used (slot_rows s) ≡ map row_of (slot_held s)
 held_rows s = sound_rows (slot_area s) (slot_rows s) (slot_count s) s.used s.sound

@@ -11,7 +11,7 @@ slot_area s = s.area.now
 abbrev pub slot_rows : SlotStore → List Row
 slot_rows s = s.rows.now
 
--- how many slots may be used: as many as there are rows, where the area is of so many, at most 200
+-- how many slots may be used: as many as there are rows, where the area is of so many slots and they are not too many
 abbrev pub slot_count : SlotStore → ℕ
 slot_count s = slot_space (length (slot_area s)) (length (slot_rows s))
 

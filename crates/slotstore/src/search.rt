@@ -8,7 +8,7 @@ use super::row::Row;
 use notice::Span;
 
 // The first row whose record is of the queue and spans the position.
-pub(crate) fn find(rows: &[Row], queue: u8, at: u32) -> Option<usize>
+pub(crate) fn first_covering(rows: &[Row], queue: u8, at: u32) -> Option<usize>
     ensures answers { result ≡ position (λ row. span_contains (row_span row) queue at) rows.now }
 {
     rows.iter().position(|row| row.span().contains(queue, at))

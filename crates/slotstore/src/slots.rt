@@ -4,7 +4,7 @@ ghost use Rattle.slotstore.specs.Slots.{SoundSlots, slot_space};
 
 use super::parts::{SLOT_SIZE, fill_next, is_slot_area, move_last};
 use super::row::Row;
-use super::search::{find, first_below, is_spanned};
+use super::search::{first_below, first_covering, is_spanned};
 use notice::{RECORD_LIMIT, Span};
 use store::{Store, StoreFault};
 
@@ -19,12 +19,12 @@ pub struct SlotStore<'a> {
 }
 
 impl<'a> SlotStore<'a> {
-    ghost use Rattle.std.specs.Prelude.{◌≡◌, ◌*◌, ◌+◌, ◌-◌, ◌<◌, ◌≤◌, true, false, [], ◌∷◌, ◌++◌, take, drop, replicate, if◌then◌else◌, Some, None, not, nat_lt, slice_index_or, option_map};
+    ghost use Rattle.std.specs.Prelude.{◌≡◌, ◌*◌, ◌+◌, ◌-◌, ◌<◌, ◌≤◌, true, false, [], ◌∷◌, ◌++◌, take, drop, replicate, if◌then◌else◌, Some, None, IfSome, not, nat_lt, slice_index_or, option_map};
     ghost use Rattle.std.specs.List.{position, swap_remove};
     ghost use Rattle.notice.specs.Limits.{record_limit};
     ghost use Rattle.notice.specs.Record.{is_record};
     ghost use Rattle.store.specs.declared.fault.StoreFault.TheVariants.{WrongArea};
-    ghost use Rattle.store.specs.Meaning.{spanned, stays};
+    ghost use Rattle.store.specs.Meaning.{spanned, found, stays};
     ghost use Rattle.slotstore.specs.Rows.{free_row};
     ghost use Rattle.slotstore.specs.Slots.{slot_size, is_slot_area};
     ghost use Rattle.slotstore.specs.SlotStores.{slot_held, slot_fits, slot_area, slot_rows, slot_count, Kept};
@@ -73,6 +73,15 @@ impl<'a> SlotStore<'a> {
     {
         let start = SLOT_SIZE * index;
         &self.area[start..start + self.rows[index].length]
+    }
+
+    // The record of the queue that spans the position.
+    fn find(&self, queue: u8, position: u32) -> Option<&[u8]>
+        ensures answers { option_map (λ r. r.now) result ≡ found queue position (slot_held self.now) }
+        ensures short { IfSome result (λ r. length r.now ≤ record_limit) }
+    {
+        let index = first_covering(&self.rows[..self.used], queue, position)?;
+        Some(self.record(index))
     }
 
     // Puts a record into the next slot.
@@ -135,6 +144,7 @@ impl<'a> Store for SlotStore<'a> {
         Ok(())
     }
 
+    #[tactic(auto, using(crate::proofs::Images::length_in_slots))]
     fn takes(&self, size: usize) -> bool
         ensures answers { result ≡ slot_fits self.now size }
         ensures slots { result ≡ nat_lt (length (slot_held self.now)) (slot_count self.now) }
@@ -142,18 +152,21 @@ impl<'a> Store for SlotStore<'a> {
         self.has_room()
     }
 
+    #[tactic(auto, using(crate::proofs::Stores::met_by_row))]
     fn is_spanned(&self, span: &Span) -> bool
         ensures answers { result ≡ any_meets span.now (slot_held self.now) }
     {
         is_spanned(self.rows, self.used, span)
     }
 
+    #[tactic(auto, using(crate::proofs::Images::length_in_slots))]
     fn count(&self) -> usize
         ensures answers { result ≡ length (slot_held self.now) }
     {
         self.used
     }
 
+    #[tactic(auto, unfolding(store::specs::Meaning::covering, store::specs::Meaning::covered))]
     fn cover(&self, queue: u8, position: u32, area: &mut [u8]) -> Result<Option<usize>, StoreFault>
         ensures answers { result ≡ covering (slot_held self.now) queue position area.old }
         ensures area { area.new ≡ covered (slot_held self.now) queue position area.old }
@@ -161,10 +174,9 @@ impl<'a> Store for SlotStore<'a> {
         if area.len() < RECORD_LIMIT {
             return Err(StoreFault::ShortArea);
         }
-        let Some(index) = find(&self.rows[..self.used], queue, position) else {
+        let Some(record) = self.find(queue, position) else {
             return Ok(None);
         };
-        let record = self.record(index);
         area[..record.len()].copy_from_slice(record);
         Ok(Some(record.len()))
     }

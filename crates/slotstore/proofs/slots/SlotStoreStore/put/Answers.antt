@@ -12,14 +12,11 @@ returns-in_err-admit-clause-becomes c =
 pub returns-in_err-admit-clause-slots : goal.returns-in_err-admit-clause-slots
 returns-in_err-admit-clause-slots c = same_kept c.args.self.now
 
-pub append-requires-clause-good : goal.append-requires-clause-good
-append-requires-clause-good c = (put-passed _ _ c.args.record.now (sym c.in_ok-admit.ensures.answers)).0
-
-pub append-requires-clause-free : goal.append-requires-clause-free
-append-requires-clause-free c = (put-passed _ _ c.args.record.now (sym c.in_ok-admit.ensures.answers)).1
-
-pub append-requires-clause-fits : goal.append-requires-clause-fits
-append-requires-clause-fits c = (put-passed _ _ c.args.record.now (sym c.in_ok-admit.ensures.answers)).2
+pub append-requires : goal.append-requires
+append-requires c =
+    let s = c.args.self.now in
+    let p = put-passed (slot_fits s (length c.args.record.now)) (slot_held s) c.args.record.now (sym c.in_ok-admit.ensures.answers) in
+    record { good = p.0; free = p.1; fits = p.2 }
 
 pub returns-clause-becomes : goal.returns-clause-becomes
 returns-clause-becomes c =
