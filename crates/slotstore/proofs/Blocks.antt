@@ -3,7 +3,7 @@ use Rattle.std.proofs.Common.{◌≡◌, ℕ, ◌+◌, ◌-◌, ◌*◌, ◌<◌
 use Rattle.std.proofs.lemmas.List.{drop_at, drop-drop, drop_more, length-take-le, take-append-drop, take_at}
 use Rattle.store.specs.Meaning.{Bytes, Records}
 use Rattle.store.proofs.Sets.{records_take, record_at}
-use Rattle.slotstore.specs.Slots.{padded, slotted}
+use Rattle.slotstore.specs.Slots.{slot_size, padded, slotted}
 use Rattle.slotstore.proofs.Images.{length-padded, length-slotted, slotted-append}
 
 -- a list as what stands before a place, the element there, and what follows
@@ -19,39 +19,39 @@ module _ (rs : List Bytes) (zs : List ℕ) (k : ℕ) (within : k < length rs) (g
       ∙ (append_assoc (slotted (take k rs)) (padded (get_or rs k []) ++ slotted (drop (k + 1) rs)) zs
       ∙ ap (λ z. slotted (take k rs) ++ z) (append_assoc (padded (get_or rs k [])) (slotted (drop (k + 1) rs)) zs)))
 
-  length_before : length (slotted (take k rs)) ≡ 320 * k
-  length_before = length-slotted (take k rs) (records_take k rs good) ∙ ap (λ n. 320 * n) (length-take-le k rs (omega arith))
+  length_before : length (slotted (take k rs)) ≡ slot_size * k
+  length_before = length-slotted (take k rs) (records_take k rs good) ∙ ap (λ n. slot_size * n) (length-take-le k rs (omega arith))
 
-  length-here : length (padded (get_or rs k [])) ≡ 320
+  length-here : length (padded (get_or rs k [])) ≡ slot_size
   length-here = length-padded (get_or rs k []) (record_at rs k within good)
 
-  pub before-slot : take (320 * k) (slotted rs ++ zs) ≡ slotted (take k rs)
-  before-slot = ap (take (320 * k)) slots-split ∙ take_at (slotted (take k rs)) _ (320 * k) length_before
+  pub before-slot : take (slot_size * k) (slotted rs ++ zs) ≡ slotted (take k rs)
+  before-slot = ap (take (slot_size * k)) slots-split ∙ take_at (slotted (take k rs)) _ (slot_size * k) length_before
 
-  from-slot : drop (320 * k) (slotted rs ++ zs) ≡ padded (get_or rs k []) ++ (slotted (drop (k + 1) rs) ++ zs)
-  from-slot = ap (drop (320 * k)) slots-split ∙ drop_at (slotted (take k rs)) _ (320 * k) length_before
+  from-slot : drop (slot_size * k) (slotted rs ++ zs) ≡ padded (get_or rs k []) ++ (slotted (drop (k + 1) rs) ++ zs)
+  from-slot = ap (drop (slot_size * k)) slots-split ∙ drop_at (slotted (take k rs)) _ (slot_size * k) length_before
 
-  pub slot-bytes : take 320 (drop (320 * k) (slotted rs ++ zs)) ≡ padded (get_or rs k [])
-  slot-bytes = ap (take 320) from-slot ∙ take_at (padded (get_or rs k [])) _ 320 length-here
+  pub slot-bytes : take slot_size (drop (slot_size * k) (slotted rs ++ zs)) ≡ padded (get_or rs k [])
+  slot-bytes = ap (take slot_size) from-slot ∙ take_at (padded (get_or rs k [])) _ slot_size length-here
 
-  pub record-bytes : take (length (get_or rs k [])) (drop (320 * k) (slotted rs ++ zs)) ≡ get_or rs k []
+  pub record-bytes : take (length (get_or rs k [])) (drop (slot_size * k) (slotted rs ++ zs)) ≡ get_or rs k []
   record-bytes =
       let r = get_or rs k [] in
-      ap (take (length r)) (from-slot ∙ append_assoc r (replicate (320 - length r) 0) (slotted (drop (k + 1) rs) ++ zs))
-      ∙ take_at r (replicate (320 - length r) 0 ++ (slotted (drop (k + 1) rs) ++ zs)) (length r) refl
+      ap (take (length r)) (from-slot ∙ append_assoc r (replicate (slot_size - length r) 0) (slotted (drop (k + 1) rs) ++ zs))
+      ∙ take_at r (replicate (slot_size - length r) 0 ++ (slotted (drop (k + 1) rs) ++ zs)) (length r) refl
 
-  pub after-slot : drop (320 * k + 320) (slotted rs ++ zs) ≡ slotted (drop (k + 1) rs) ++ zs
+  pub after-slot : drop (slot_size * k + slot_size) (slotted rs ++ zs) ≡ slotted (drop (k + 1) rs) ++ zs
   after-slot =
-      sym (drop-drop 320 (320 * k) (slotted rs ++ zs))
-      ∙ (ap (drop 320) from-slot ∙ drop_at (padded (get_or rs k [])) _ 320 length-here)
+      sym (drop-drop slot_size (slot_size * k) (slotted rs ++ zs))
+      ∙ (ap (drop slot_size) from-slot ∙ drop_at (padded (get_or rs k [])) _ slot_size length-here)
 
   -- another record written over the slot
   pub slot-written :
       (y : Bytes) →
-      (take (320 * k) (slotted rs ++ zs) ++ padded y) ++ drop (320 * k + 320) (slotted rs ++ zs)
+      (take (slot_size * k) (slotted rs ++ zs) ++ padded y) ++ drop (slot_size * k + slot_size) (slotted rs ++ zs)
       ≡ slotted (take k rs ++ y ∷ drop (k + 1) rs) ++ zs
   slot-written y =
-      ap (λ z. (z ++ padded y) ++ drop (320 * k + 320) (slotted rs ++ zs)) before-slot
+      ap (λ z. (z ++ padded y) ++ drop (slot_size * k + slot_size) (slotted rs ++ zs)) before-slot
       ∙ (ap (λ z. (slotted (take k rs) ++ padded y) ++ z) after-slot
       ∙ (append_assoc (slotted (take k rs)) (padded y) (slotted (drop (k + 1) rs) ++ zs)
       ∙ (ap (λ z. slotted (take k rs) ++ z) (sym (append_assoc (padded y) (slotted (drop (k + 1) rs)) zs))

@@ -2,6 +2,5 @@ pub mod Blocks
 pub mod Changes
 pub mod Images
 pub mod RowLists
-pub mod Sames
 pub mod Stores
 pub mod Sweeps

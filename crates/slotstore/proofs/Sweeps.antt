@@ -1,12 +1,16 @@
 -- A sweep over slots, step by step, and what it leaves: the records that stay, in another order.
-use Rattle.std.proofs.Common.{◌≡◌, ℕ, zero, suc, ◌+◌, ◌-◌, ◌<◌, ◌≤◌, Bool, true, false, cond, List, [], ◌∷◌, ◌++◌, length, get_or, take, drop, filter, sym, ap, ◌∙◌, subst, append_assoc, arith}
+use Rattle.std.proofs.Common.{◌≡◌, ℕ, zero, suc, ◌+◌, ◌-◌, ◌<◌, ◌≤◌, Bool, true, false, cond, not, List, [], ◌∷◌, ◌++◌, length, get_or, take, drop, filter, Some, None, Option, sym, refl, ap, ◌∙◌, subst, ⊎_elim, append_assoc, arith, take-add}
 use Rattle.std.specs.List.Sorted.{IsPermutation}
 use Rattle.std.proofs.lemmas.List.Elements.{filter-append}
-use Rattle.std.proofs.lemmas.List.{append-nil, drop_at, drop_more, length-append, length-drop, length-take-le, take_all, take-append-drop, take_at, take_more}
-use Rattle.std.proofs.lemmas.List.Sorted.{IsPermutation-refl, IsPermutation-cons, IsPermutation-to_front, IsPermutation-trans}
-use Rattle.std.proofs.lemmas.Bool.{cond-true, cond-false}
+use Rattle.std.specs.List.{position, swap_remove}
+use Rattle.std.specs.Option.{option_map}
+use Rattle.std.proofs.lemmas.List.Quantifiers.{position-Some}
+use Rattle.std.proofs.lemmas.List.{append-nil, drop_all, drop_at, drop_more, get_or-drop, set_split, length-append, length-drop, length-take-le, take_all, take-append-drop, take_at, take_more}
+use Rattle.std.proofs.lemmas.List.Sorted.{IsPermutation-append_comm, IsPermutation-cons, IsPermutation-refl, IsPermutation-trans}
+use Rattle.std.proofs.lemmas.Bool.{cases_eq, cond-true, cond-false, not-true, not-false}
 use Rattle.store.specs.Meaning.{Bytes}
 use Rattle.slotstore.specs.Slots.{rolled, swept}
+use Rattle.slotstore.proofs.RowLists.{position-None}
 
 -- the record at the place stays
 pub swept_keeps :
@@ -39,46 +43,106 @@ swept_drops p rs ss i n h t e l =
     ∙ (ap (λ z. z ++ swept (n - i) p (rolled (drop (i + 1) rs))) (sym (ap (take i) e ∙ take_at (take i rs) (rolled (drop (i + 1) rs)) i li))
     ∙ ap (λ z. take i ss ++ swept (n - i) p z) (sym (ap (drop i) e ∙ drop_at (take i rs) (rolled (drop (i + 1) rs)) i li)))
 
--- the same, with the number of records by its own name
+-- as far as the records stay
+swept_skips :
+    (p : Bytes → Bool) (rs : List Bytes) (i k : ℕ) → i + k ≤ length rs → ((j : ℕ) → j < k → p (get_or rs (i + j) []) ≡ true) →
+    take i rs ++ swept (length rs - i) p (drop i rs) ≡ take (i + k) rs ++ swept (length rs - (i + k)) p (drop (i + k) rs)
+swept_skips p rs i zero h t =
+    let e : i ≡ i + 0 = omega arith in ap (λ n. take n rs ++ swept (length rs - n) p (drop n rs)) e
+swept_skips p rs i (suc k) h t =
+    let e : (i + k) + 1 ≡ i + suc k = omega arith in
+    swept_skips p rs i k (omega arith) (λ j l. t j (omega arith))
+    ∙ (swept_keeps p rs (i + k) (omega arith) (t k (omega arith)) ∙ ap (λ n. take n rs ++ swept (length rs - n) p (drop n rs)) e)
 
-pub keeps_counted :
-    (p : Bytes → Bool) (rs : List Bytes) (i u : ℕ) → length rs ≡ u → i < u → p (get_or rs i []) ≡ true →
-    take (i + 1) rs ++ swept (u - (i + 1)) p (drop (i + 1) rs) ≡ take i rs ++ swept (u - i) p (drop i rs)
-keeps_counted p rs i u l h t =
-    ap (λ n. take (i + 1) rs ++ swept (n - (i + 1)) p (drop (i + 1) rs)) (sym l)
-    ∙ (sym (swept_keeps p rs i (omega arith) t) ∙ ap (λ n. take i rs ++ swept (n - i) p (drop i rs)) l)
+-- the first place from another one on whose record does not stay
+pub record Next (p : Bytes → Bool) (rs : List Bytes) (from at : ℕ) : Type 0 where
+  pub above : from ≤ at
+  pub inside : at < length rs
+  pub fails : p (get_or rs at []) ≡ false
+  pub stay : (j : ℕ) → from + j < at → p (get_or rs (from + j) []) ≡ true
 
-pub drops_counted :
-    (p : Bytes → Bool) (rs ss : List Bytes) (i u n : ℕ) → length rs ≡ u → i < u → p (get_or rs i []) ≡ false →
-    ss ≡ take i rs ++ rolled (drop (i + 1) rs) → n + 1 ≡ u →
-    take i ss ++ swept (n - i) p (drop i ss) ≡ take i rs ++ swept (u - i) p (drop i rs)
-drops_counted p rs ss i u n l h t e m =
-    sym (swept_drops p rs ss i n (omega arith) t e (omega arith)) ∙ ap (λ k. take i rs ++ swept (k - i) p (drop i rs)) l
+pub next_place :
+    (p : Bytes → Bool) (rs : List Bytes) (from at : ℕ) (place : Option ℕ) → place ≡ position (λ r. not (p r)) (drop from rs) →
+    Some at ≡ option_map (λ k. from + k) place → Next p rs from at
+next_place p rs from at None e f = cc
+next_place p rs from at (Some k) e f =
+    let n : at ≡ from + k = cc in
+    let t = position-Some (λ r. not (p r)) (drop from rs) k [] (sym e) in
+    let l = t.0 in
+    record {
+      above = omega arith;
+      inside = omega (arith, l, length-drop from rs);
+      fails = ap (λ j. p (get_or rs j [])) n ∙ (sym (ap p (get_or-drop from rs k [])) ∙ not-true (p (get_or (drop from rs) k [])) t.1);
+      stay = λ j h. sym (ap p (get_or-drop from rs j [])) ∙ not-false (p (get_or (drop from rs) j [])) (t.2 j (omega arith));
+    }
 
--- one step of a sweep, whichever way it goes
-pub swept_step :
-    (p : Bytes → Bool) (rs ss : List Bytes) (i j u v : ℕ) (b : Bool) → length rs ≡ u → i < u → p (get_or rs i []) ≡ b →
-    j ≡ cond b (i + 1) i → ss ≡ cond b rs (take i rs ++ rolled (drop (i + 1) rs)) → v + cond b 0 1 ≡ u →
-    (take j ss ++ swept (v - j) p (drop j ss) ≡ take i rs ++ swept (u - i) p (drop i rs)) × (j ≤ v) × (v - j < u - i)
-swept_step p rs ss i j u v true l h t ej es ev =
-    let e : v ≡ u = omega arith in (
-      ap (λ k. take k ss ++ swept (v - k) p (drop k ss)) ej
-          ∙ (ap (λ z. take (i + 1) z ++ swept (v - (i + 1)) p (drop (i + 1) z)) es
-          ∙ (ap (λ k. take (i + 1) rs ++ swept (k - (i + 1)) p (drop (i + 1) rs)) e ∙ keeps_counted p rs i u l h t)),
-      omega arith,
-      omega arith,
-    )
-swept_step p rs ss i j u v false l h t ej es ev = (
-  ap (λ k. take k ss ++ swept (v - k) p (drop k ss)) ej ∙ drops_counted p rs ss i u v l h t es ev,
-  omega arith,
-  omega arith,
-)
+-- the list after the element at a place took the value of the last one, which is left out
+taken_over :
+    (rs : List Bytes) (i last : ℕ) → length rs ≡ last + 1 → i ≤ last →
+    take last (take i rs ++ get_or rs last [] ∷ drop (i + 1) rs) ≡ take i rs ++ rolled (drop (i + 1) rs)
+taken_over rs i last n le =
+    let y = get_or rs last [] in
+    let b = drop (i + 1) rs in
+    let li : length (take i rs) ≡ i = length-take-le i rs (omega arith) in
+    let lb : length b ≡ last - i = length-drop (i + 1) rs ∙ omega arith in
+    let k : i + (last - i) ≡ last = omega arith in
+    let front : take last (take i rs ++ y ∷ b) ≡ take i rs ++ take (last - i) (y ∷ b) =
+    ap (λ m. take m (take i rs ++ y ∷ b)) (sym k)
+    ∙ (take-add i (last - i) (take i rs ++ y ∷ b)
+    ∙ (ap (λ z. z ++ take (last - i) (drop i (take i rs ++ y ∷ b))) (take_at (take i rs) (y ∷ b) i li)
+    ∙ ap (λ z. take i rs ++ take (last - i) z) (drop_at (take i rs) (y ∷ b) i li))) in
+    front ∙ ap (λ z. take i rs ++ z) (⊎_elim none some (cases_eq (last - i) 0))
+  where
+    none : last - i ≡ 0 → take (last - i) (get_or rs last [] ∷ drop (i + 1) rs) ≡ rolled (drop (i + 1) rs)
+    none z =
+        let e : drop (i + 1) rs ≡ [] = drop_all (i + 1) rs (omega arith) in
+        ap (λ m. take m (get_or rs last [] ∷ drop (i + 1) rs)) z ∙ ap rolled (sym e)
 
--- no slot is left to be tried
-pub swept_all : (p : Bytes → Bool) (rs : List Bytes) (i u : ℕ) → length rs ≡ u → i ≤ u → u ≤ i → take i rs ++ swept (u - i) p (drop i rs) ≡ rs
-swept_all p rs i u l h g =
-    let z : u - i ≡ 0 = omega arith in
-    ap (λ n. take i rs ++ swept n p (drop i rs)) z ∙ (append-nil (take i rs) ∙ take_all i rs (omega arith))
+    some : (last - i ≡ 0 → ⊥) → take (last - i) (get_or rs last [] ∷ drop (i + 1) rs) ≡ rolled (drop (i + 1) rs)
+    some ne =
+        let b = drop (i + 1) rs in
+        let lb : length b ≡ last - i = length-drop (i + 1) rs ∙ omega arith in
+        let m = length b - 1 in
+        let p : last - i ≡ suc m = omega arith in
+        let g : get_or b m [] ≡ get_or rs last [] = get_or-drop (i + 1) rs m [] ∙ ap (λ j. get_or rs j []) (omega arith) in
+        let d : drop m b ≡ get_or rs last [] ∷ [] =
+        drop_more b m [] (omega arith) ∙ (ap (λ z. z ∷ drop (m + 1) b) g ∙ ap (λ z. get_or rs last [] ∷ z) (drop_all (m + 1) b (omega arith))) in
+        ap (λ j. take j (get_or rs last [] ∷ b)) p ∙ ap (λ z. z ++ take m b) (sym d)
+
+swapped : (rs : List Bytes) (i : ℕ) → i < length rs → swap_remove rs i [] ≡ take i rs ++ rolled (drop (i + 1) rs)
+swapped rs i h =
+    let last = length rs - 1 in
+    let y = get_or rs last [] in
+    let j : suc i ≡ i + 1 = omega arith in
+    ap (take last) (set_split rs i y h ∙ ap (λ k. take i rs ++ y ∷ drop k rs) j) ∙ taken_over rs i last (omega arith) (omega arith)
+
+-- its slot takes the contents of the last one, and is where the sweep goes on
+pub swept_next :
+    (p : Bytes → Bool) (rs ss : List Bytes) (from at : ℕ) → Next p rs from at → ss ≡ swap_remove rs at [] →
+    length rs ≡ length ss + 1 →
+    take at ss ++ swept (length ss - at) p (drop at ss) ≡ take from rs ++ swept (length rs - from) p (drop from rs)
+swept_next p rs ss from at m e l =
+    let k : from + (at - from) ≡ at = omega (arith, m.above) in
+    let inside = m.inside in
+    sym (swept_skips p rs from (at - from) (omega arith) (λ j h. m.stay j (omega arith))
+    ∙ (ap (λ n. take n rs ++ swept (length rs - n) p (drop n rs)) k ∙ swept_drops p rs ss at (length ss) m.inside m.fails (e ∙ swapped rs at m.inside) l))
+
+-- no record from a place on has to go
+swept_rest :
+    (p : Bytes → Bool) (rs : List Bytes) (from : ℕ) (place : Option ℕ) → from ≤ length rs →
+    place ≡ position (λ r. not (p r)) (drop from rs) → None ≡ option_map (λ k. from + k) place →
+    take from rs ++ swept (length rs - from) p (drop from rs) ≡ rs
+swept_rest p rs from (Some k) h e f = cc
+swept_rest p rs from None h e f =
+    let n = length rs - from in
+    let k : from + n ≡ length rs = omega arith in
+    let z : length rs - length rs ≡ 0 = omega arith in
+    let none = position-None (λ r. not (p r)) (drop from rs) [] (sym e) in
+    swept_skips p rs from n (omega arith)
+    (λ j l. sym (ap p (get_or-drop from rs j [])) ∙ not-false (p (get_or (drop from rs) j [])) (none j (omega (arith, length-drop from rs))))
+    ∙ (ap (λ m. take m rs ++ swept (length rs - m) p (drop m rs)) k
+    ∙ (ap (λ m. take (length rs) rs ++ swept m p (drop (length rs) rs)) z
+    ∙ (append-nil (take (length rs) rs) ∙ take_all (length rs) rs (omega arith))))
 
 -- the last one put first
 kept_rolled : (p : Bytes → Bool) (rs : List Bytes) → IsPermutation (filter p rs) (filter p (rolled rs))
@@ -88,18 +152,8 @@ kept_rolled p rs =
     let d = drop m rs in
     let before : filter p rs ≡ filter p c ++ filter p d = ap (filter p) (sym (take-append-drop m rs)) ∙ filter-append p c d in
     let after : filter p (rolled rs) ≡ filter p d ++ filter p c = filter-append p d c in
-    let few : length d ≤ 1 = omega (arith, length-drop m rs) in
     subst (λ z. IsPermutation z (filter p (rolled rs))) (sym before)
-    (subst (IsPermutation (filter p c ++ filter p d)) (sym after) (one d few))
-  where
-    one : (d : List Bytes) → length d ≤ 1 → IsPermutation (filter p (take (length rs - 1) rs) ++ filter p d) (filter p d ++ filter p (take (length rs - 1) rs))
-    one [] h = subst (λ z. IsPermutation z (filter p (take (length rs - 1) rs))) (sym (append-nil (filter p (take (length rs - 1) rs)))) (IsPermutation-refl (filter p (take (length rs - 1) rs)))
-    one (y ∷ []) h =
-        elim (p y) as (λ b. IsPermutation (filter p (take (length rs - 1) rs) ++ cond b (y ∷ []) []) (cond b (y ∷ []) [] ++ filter p (take (length rs - 1) rs))) [
-          | true ↦ IsPermutation-to_front (filter p (take (length rs - 1) rs)) y
-          | false ↦ subst (λ z. IsPermutation z (filter p (take (length rs - 1) rs))) (sym (append-nil (filter p (take (length rs - 1) rs)))) (IsPermutation-refl (filter p (take (length rs - 1) rs)))
-        ]
-    one (y ∷ z ∷ zs) h = absurd (omega arith)
+    (subst (IsPermutation (filter p c ++ filter p d)) (sym after) (IsPermutation-append_comm (filter p c) (filter p d)))
 
 length-rolled : (rs : List Bytes) → length (rolled rs) ≡ length rs
 length-rolled rs =
@@ -107,7 +161,7 @@ length-rolled rs =
     length-append (drop m rs) (take m rs) ∙ omega (arith, length-drop m rs, length-take-le m rs (omega arith))
 
 -- what a sweep leaves is what stays, in another order
-pub swept_shuffled : (n : ℕ) (p : Bytes → Bool) (rs : List Bytes) → length rs ≡ n → IsPermutation (filter p rs) (swept n p rs)
+swept_shuffled : (n : ℕ) (p : Bytes → Bool) (rs : List Bytes) → length rs ≡ n → IsPermutation (filter p rs) (swept n p rs)
 swept_shuffled zero p [] h = IsPermutation-refl []
 swept_shuffled zero p (r ∷ rs) h = absurd (omega arith)
 swept_shuffled (suc n) p [] h = IsPermutation-refl []
@@ -118,3 +172,16 @@ swept_shuffled (suc n) p (r ∷ rs) h =
           IsPermutation-trans (filter p rs) (filter p (rolled rs)) (swept n p (rolled rs)) (kept_rolled p rs)
           (swept_shuffled n p (rolled rs) (omega (arith, length-rolled rs)))
     ]
+
+-- a sweep that has no record left to move: what there is, and that it is what stays, in another order
+pub record Swept (p : Bytes → Bool) (old rs : List Bytes) : Type 0 where
+  pub order : rs ≡ swept (length old) p old
+  pub stays : IsPermutation (filter p old) rs
+
+pub swept_done :
+    (p : Bytes → Bool) (old rs : List Bytes) (from : ℕ) (place : Option ℕ) → from ≤ length rs →
+    place ≡ position (λ r. not (p r)) (drop from rs) → None ≡ option_map (λ k. from + k) place →
+    take from rs ++ swept (length rs - from) p (drop from rs) ≡ swept (length old) p old → Swept p old rs
+swept_done p old rs from place h e f rest =
+    let order : rs ≡ swept (length old) p old = sym (swept_rest p rs from place h e f) ∙ rest in
+    record { order = order; stays = subst (IsPermutation (filter p old)) (sym order) (swept_shuffled (length old) p old refl) }

@@ -1,11 +1,11 @@
 // The slot store: records in slots of equal size, told by rows.
 #![tactic(auto)]
 
-mod calls;
+mod parts;
 mod row;
 mod search;
-mod steps;
-mod types;
+mod slots;
 
+pub use parts::{SLOT_LIMIT, SLOT_SIZE};
 pub use row::Row;
-pub use types::SlotStore;
+pub use slots::SlotStore;

@@ -1,60 +1,31 @@
-// Rows: the row of a record, the tests of a row, and searches over the rows in use.
-ghost use Rattle.std.specs.Prelude.{◌≡◌, ◌≤◌, length, take};
-ghost use Rattle.slotstore.specs.Rows.{row_of, row_covers, row_meets, row_stays, any_row, First};
+// Searches over rows.
+ghost use Rattle.std.specs.Prelude.{◌≡◌, ◌≤◌, length, not, take};
+ghost use Rattle.std.specs.List.{position, list_any};
+ghost use Rattle.notice.specs.Spans.{span_contains, spans_meet, span_is_kept};
+ghost use Rattle.slotstore.specs.Rows.{row_span};
 
 use super::row::Row;
+use notice::Span;
 
-pub(crate) fn row(bytes: &[u8]) -> Row
-    ensures answers { result ≡ row_of bytes.now }
+// The first row whose record is of the queue and spans the position.
+pub(crate) fn first_covering(rows: &[Row], queue: u8, at: u32) -> Option<usize>
+    ensures answers { result ≡ position (λ row. span_contains (row_span row) queue at) rows.now }
 {
-    Row {
-        queue: notice::queue(bytes),
-        old: notice::old(bytes),
-        new: notice::new(bytes),
-        length: bytes.len(),
-    }
+    rows.iter().position(|row| row.span().contains(queue, at))
 }
 
-fn is_covering(row: Row, queue: u8, position: u32) -> bool
-    ensures answers { result ≡ row_covers queue position row }
+// The first row whose record is of the queue and ends below a number.
+pub(crate) fn first_below(rows: &[Row], queue: u8, below: u32) -> Option<usize>
+    ensures answers { result ≡ position (λ row. not (span_is_kept (row_span row) queue below)) rows.now }
 {
-    row.queue == queue && row.old < position && position <= row.new
+    rows.iter()
+        .position(|row| !row.span().is_kept(queue, below))
 }
 
-fn is_met(row: Row, queue: u8, old: u32, new: u32) -> bool
-    ensures answers { result ≡ row_meets queue old new row }
-{
-    row.queue == queue && row.old.max(old) < row.new.min(new)
-}
-
-pub(crate) fn is_kept(row: Row, queue: u8, below: u32) -> bool
-    ensures answers { result ≡ row_stays queue below row }
-{
-    row.queue != queue || row.new >= below
-}
-
-// The first row in use whose record is of the queue and spans the position.
-pub(crate) fn find(rows: &[Row], used: usize, queue: u8, position: u32) -> Option<usize>
+// Whether one of the first rows is of the span's lane and shares a position with it.
+pub(crate) fn is_spanned(rows: &[Row], used: usize, span: &Span) -> bool
     requires within { used ≤ length rows.now }
-    ensures answers { First (row_covers queue position) rows.now used result }
+    ensures answers { result ≡ list_any (λ row. spans_meet (row_span row) span.now) (take used rows.now) }
 {
-    for i in 0..used {
-        if is_covering(rows[i], queue, position) {
-            return Some(i);
-        }
-    }
-    None
-}
-
-// Whether a row in use has the queue for its lane and shares a position with the span from old + 1 to new.
-pub(crate) fn is_spanned(rows: &[Row], used: usize, queue: u8, old: u32, new: u32) -> bool
-    requires within { used ≤ length rows.now }
-    ensures answers { result ≡ any_row (row_meets queue old new) (take used rows.now) }
-{
-    for i in 0..used {
-        if is_met(rows[i], queue, old, new) {
-            return true;
-        }
-    }
-    false
+    rows[..used].iter().any(|row| row.span().meets(span))
 }
