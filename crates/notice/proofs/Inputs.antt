@@ -3,18 +3,20 @@ use Rattle.std.proofs.Common.{◌≡◌, ℕ, List, ◌++◌, length, get_or, ta
 use Rattle.std.proofs.lemmas.List.{take_at, drop_at}
 use Rattle.statement.specs.Layout.{number}
 use Rattle.statement.proofs.Layouts.{number-four}
-use Rattle.notice.specs.Input.{digest_input}
+use Rattle.notice.specs.declared.spans.Span.{Span}
+use Rattle.notice.specs.Limits.{previous_size}
+use Rattle.notice.specs.Input.{digest_input, Determines}
 
-pub input_determines :
-    (q o n : ℕ) (d t : List ℕ) (q' o' n' : ℕ) (d' t' : List ℕ) → length d ≡ 32 → length d' ≡ 32 →
-    digest_input q o n d t ≡ digest_input q' o' n' d' t' →
-    (q ≡ q') × (o ≡ o') × (n ≡ n') × (d ≡ d') × (t ≡ t')
+pub input_determines : (span : Span) (previous text : List ℕ) → length previous ≡ previous_size → Determines span previous text
 unfolding digest_input
-input_determines q o n d t q' o' n' d' t' h h' e =
-    let rest : d ++ t ≡ d' ++ t' = ap (drop 9) e in (
-      ap (λ z. get_or z 0 0) e,
-      sym (number-four o) ∙ (ap (λ z. number (take 4 (drop 1 z))) e ∙ number-four o'),
-      sym (number-four n) ∙ (ap (λ z. number (take 4 (drop 5 z))) e ∙ number-four n'),
-      sym (take_at d t 32 h) ∙ (ap (take 32) rest ∙ take_at d' t' 32 h'),
-      sym (drop_at d t 32 h) ∙ (ap (drop 32) rest ∙ drop_at d' t' 32 h'),
-    )
+input_determines span previous text h' s d words h e =
+    let rest : d ++ words ≡ previous ++ text = ap (drop 9) e in
+    let lane : s.lane ≡ span.lane = ap (λ z. get_or z 0 0) e in
+    let old : s.old ≡ span.old = sym (number-four s.old) ∙ (ap (λ z. number (take 4 (drop 1 z))) e ∙ number-four span.old) in
+    let new : s.new ≡ span.new = sym (number-four s.new) ∙ (ap (λ z. number (take 4 (drop 5 z))) e ∙ number-four span.new) in
+    let same : ◌≡◌ {A = Span} (record { lane = s.lane; old = s.old; new = s.new }) (record { lane = span.lane; old = span.old; new = span.new }) = cc in
+    record {
+      span = same;
+      previous = sym (take_at d words 32 h) ∙ (ap (take 32) rest ∙ take_at previous text 32 h');
+      text = sym (drop_at d words 32 h) ∙ (ap (drop 32) rest ∙ drop_at previous text 32 h');
+    }

@@ -1,12 +1,14 @@
 -- An answer: kind, number of statements and text length, one byte each; the statements; their tags in the same order.
 -- The kinds with a text go on with the previous digest and the text.
-use Rattle.std.specs.Prelude.{ℕ, ◌+◌, ◌*◌, Bool, true, false, cond, ◌||◌, List, [], ◌∷◌, ◌++◌, length, Some, None, Option, ◌==◌}
+use Rattle.std.specs.Prelude.{ℕ, ◌+◌, ◌*◌, Bool, true, false, ◌||◌, List, [], ◌∷◌, ◌++◌, length, Some, None, Option, ◌==◌, if◌then◌else◌, Result}
 use Rattle.std.specs.List.{flat_map}
 use Rattle.statement.specs.declared.types.SignedStatement.{SignedStatement}
 use Rattle.statement.specs.Layout.{encoded}
 use Rattle.notice.specs.declared.answer.Kind.{Kind}
 use Rattle.notice.specs.declared.answer.Kind.TheVariants.{Found, Skipped, Forgotten, NotYet, End, EndOfEmpty}
-use Rattle.notice.specs.Limits.{text_limit}
+use Rattle.notice.specs.declared.answer.UnknownKind.{UnknownKind}
+use Rattle.std.specs.Option.{ok_or}
+use Rattle.notice.specs.Limits.{signed_size, previous_size, text_limit, answer_head}
 
 abbrev pub number_of_kind : Kind → ℕ
 number_of_kind Found = 1
@@ -19,13 +21,17 @@ number_of_kind EndOfEmpty = 6
 -- the kind of a number
 abbrev pub kind_of : ℕ → Option Kind
 kind_of n =
-    cond (n == 1) (Some Found)
-    (cond (n == 2) (Some Skipped)
-    (cond (n == 3) (Some Forgotten)
-    (cond (n == 4) (Some NotYet)
-    (cond (n == 5) (Some End)
-    (cond (n == 6) (Some EndOfEmpty)
-    None)))))
+    if n == 1 then Some Found
+    else if n == 2 then Some Skipped
+    else if n == 3 then Some Forgotten
+    else if n == 4 then Some NotYet
+    else if n == 5 then Some End
+    else if n == 6 then Some EndOfEmpty
+    else None
+
+-- the same as a program reads it
+abbrev pub kind_read : ℕ → Result Kind UnknownKind
+kind_read n = ok_or (kind_of n) (record {})
 
 -- the end shows a status and an advance, every other kind one of the two
 abbrev pub statements_of : Kind → ℕ
@@ -50,15 +56,16 @@ answer_bytes kind signed previous text =
     number_of_kind kind ∷ length signed ∷ length text
     ∷ (flat_map (λ s. encoded s.statement) signed
     ++ (flat_map (λ s. s.tag) signed
-    ++ cond (has_text kind) (previous ++ text) []))
+    ++ (if has_text kind then previous ++ text else [])))
 
 -- the length that the first three bytes of an answer give
 abbrev pub answer_length : ℕ → ℕ → ℕ → ℕ
-answer_length number count size = 3 + 81 * count + cond (number == 1 || number == 5) (32 + size) 0
+answer_length number count size =
+    answer_head + signed_size * count + (if number == 1 || number == 5 then previous_size + size else 0)
 
 -- the bytes before the text, or all of them where there is none
 abbrev pub head_length : Kind → ℕ
-head_length kind = 3 + 81 * statements_of kind + cond (has_text kind) 32 0
+head_length kind = answer_head + signed_size * statements_of kind + (if has_text kind then previous_size else 0)
 
 -- an answer of any kind is at most so long
 abbrev pub answer_limit : ℕ

@@ -1,19 +1,29 @@
 -- How long texts, records and digest inputs are.
 use Rattle.std.specs.Prelude.{ℕ, ◌+◌}
 
+abbrev pub signed_size : ℕ
+signed_size = 81
+
+abbrev pub previous_size : ℕ
+previous_size = 32
+
 abbrev pub text_limit : ℕ
 text_limit = 200
 
--- signed statement 81, previous digest 32, text length 1
+-- signed statement, previous digest, text length 1
 abbrev pub record_head : ℕ
-record_head = 114
+record_head = signed_size + previous_size + 1
 
 abbrev pub record_limit : ℕ
 record_limit = record_head + text_limit
 
--- queue 1, old 4, new 4, previous digest 32
+-- queue 1, old 4, new 4, previous digest
 abbrev pub input_head : ℕ
-input_head = 41
+input_head = 1 + 4 + 4 + previous_size
 
 abbrev pub input_limit : ℕ
 input_limit = input_head + text_limit
+
+-- an answer before its statements: kind, number of statements and text length
+abbrev pub answer_head : ℕ
+answer_head = 3

@@ -1,8 +1,10 @@
--- A record: a signed statement (81 bytes), the previous digest (32), the text length (1) and the text.
+-- A record: a signed statement, the previous digest, the text length (1) and the text.
 use Rattle.std.specs.Prelude.{◌≡◌, ℕ, ◌+◌, ◌/◌, ◌%◌, Bool, ◌&&◌, List, ◌∷◌, ◌++◌, length, take, drop, ◌==◌, nat_le, nat_lt, slice_index}
 use Rattle.statement.specs.declared.types.SignedStatement.{SignedStatement}
 use Rattle.statement.specs.Layout.{encoded_signed, decoded_signed}
-use Rattle.notice.specs.Limits.{text_limit, record_head}
+use Rattle.notice.specs.declared.spans.Span.{Span}
+use Rattle.notice.specs.Limits.{signed_size, previous_size, text_limit, record_head}
+use Rattle.notice.specs.Spans.{span_contains}
 
 -- the record of a signed statement, the previous digest and a text
 unfoldable pub recorded : SignedStatement → List ℕ → List ℕ → List ℕ
@@ -27,10 +29,10 @@ unfoldable pub new_of : List ℕ → ℕ
 new_of r = (decoded_signed r).statement.new
 
 unfoldable pub previous_of : List ℕ → List ℕ
-previous_of r = take 32 (drop 81 r)
+previous_of r = take previous_size (drop signed_size r)
 
 unfoldable pub size_of : List ℕ → ℕ
-size_of r = slice_index r 113
+size_of r = slice_index r (signed_size + previous_size)
 
 unfoldable pub text_of : List ℕ → List ℕ
 text_of r = drop record_head r
@@ -38,6 +40,10 @@ text_of r = drop record_head r
 -- a record of the queue q is of the counter 2 q + 1
 unfoldable pub queue_of : List ℕ → ℕ
 queue_of r = counter_of r / 2
+
+-- a record's span: its lane is its queue
+abbrev pub span_of : List ℕ → Span
+span_of r = record { lane = queue_of r; old = old_of r; new = new_of r }
 
 -- a record that may be kept
 unfoldable pub is_record : List ℕ → Bool
@@ -50,7 +56,7 @@ is_record r =
 
 -- the record is of the queue and spans the position: old + 1 to new
 unfoldable pub covers : ℕ → ℕ → List ℕ → Bool
-covers q p r = queue_of r == q && (nat_lt (old_of r) p && nat_le p (new_of r))
+covers q p r = span_contains (span_of r) q p
 
 -- the bytes say these parts
 pub record Tells (s : SignedStatement) (digest words r : List ℕ) : Type 0 where

@@ -1,12 +1,8 @@
 // The kinds of answers, and how long an answer is.
 ghost use Rattle.std.specs.Prelude.{◌≡◌};
-ghost use Rattle.notice.specs.Answer.{number_of_kind, kind_of, statements_of, has_text, answer_length};
+ghost use Rattle.notice.specs.Answer.{number_of_kind, kind_read, statements_of, has_text, answer_length};
 
-// An answer before its statements: kind, number of statements and text length.
-pub const ANSWER_HEAD: usize = 3;
-
-// An answer of any kind fits into so many bytes.
-pub const ANSWER_LIMIT: usize = 397;
+use super::limits::{ANSWER_HEAD, PREVIOUS_SIZE, SIGNED_STATEMENT_SIZE};
 
 /// What an answer says of the position or the end that was asked for.
 #[derive(Clone, Copy, PartialEq, Eq, Debug)]
@@ -25,11 +21,15 @@ pub enum Kind {
     EndOfEmpty,
 }
 
-impl Kind {
-    pub fn number(&self) -> u8
-        ensures answers { result ≡ number_of_kind self.now }
-    {
-        match self {
+/// A number that no kind has.
+#[derive(Clone, Copy, PartialEq, Eq, Debug)]
+pub struct UnknownKind;
+
+impl From<Kind> for u8 {
+    ghost from_gives = { λ kind number. number ≡ number_of_kind kind };
+
+    fn from(kind: Kind) -> u8 {
+        match kind {
             Kind::Found => 1,
             Kind::Skipped => 2,
             Kind::Forgotten => 3,
@@ -38,51 +38,70 @@ impl Kind {
             Kind::EndOfEmpty => 6,
         }
     }
+}
 
-    // The kind of that number, none for a number that no kind has.
-    pub fn of(number: u8) -> Option<Kind>
-        ensures answers { result ≡ kind_of number }
-    {
+impl TryFrom<u8> for Kind {
+    type Error = UnknownKind;
+
+    ghost try_from_gives = { λ number kind. kind ≡ kind_read number };
+
+    fn try_from(number: u8) -> Result<Kind, UnknownKind> {
         match number {
-            1 => Some(Kind::Found),
-            2 => Some(Kind::Skipped),
-            3 => Some(Kind::Forgotten),
-            4 => Some(Kind::NotYet),
-            5 => Some(Kind::End),
-            6 => Some(Kind::EndOfEmpty),
-            _ => None,
+            1 => Ok(Kind::Found),
+            2 => Ok(Kind::Skipped),
+            3 => Ok(Kind::Forgotten),
+            4 => Ok(Kind::NotYet),
+            5 => Ok(Kind::End),
+            6 => Ok(Kind::EndOfEmpty),
+            _ => Err(UnknownKind),
         }
     }
+}
 
-    // How many signed statements an answer of this kind has.
+impl Kind {
+    /// How many signed statements an answer of this kind has.
     pub fn statements(&self) -> u8
         ensures answers { result ≡ statements_of self.now }
     {
         match self {
             Kind::End => 2,
-            _ => 1,
+            Kind::Found | Kind::Skipped | Kind::Forgotten | Kind::NotYet | Kind::EndOfEmpty => 1,
         }
     }
 
-    // Whether the previous digest and the text follow.
+    /// Whether the previous digest and the text follow.
     pub fn has_text(&self) -> bool
         ensures answers { result ≡ has_text self.now }
     {
         match self {
             Kind::Found | Kind::End => true,
-            _ => false,
+            Kind::Skipped | Kind::Forgotten | Kind::NotYet | Kind::EndOfEmpty => false,
         }
     }
 }
 
-// The length that an answer's first three bytes give, whether or not they are right.
-pub fn answer_length(number: u8, count: u8, size: u8) -> usize
-    ensures answers { result ≡ answer_length number count size }
-{
-    let signed = ANSWER_HEAD + 81 * usize::from(count);
-    if number == 1 || number == 5 {
-        signed + 32 + usize::from(size)
-    } else {
-        signed
+/// An answer's first three bytes, whether or not they are right.
+#[derive(Clone, Copy, PartialEq, Eq, Debug)]
+pub struct AnswerHead {
+    /// The number of the kind.
+    pub number: u8,
+    /// The number of signed statements.
+    pub count: u8,
+    /// The length of the text.
+    pub size: u8,
+}
+
+impl AnswerHead {
+    /// The length in bytes of an answer that begins with this head.
+    pub fn length(&self) -> usize
+        ensures answers { result ≡ answer_length self.now.number self.now.count self.now.size }
+    {
+        let signed = ANSWER_HEAD + SIGNED_STATEMENT_SIZE * usize::from(self.count);
+        let has_text = Kind::try_from(self.number).is_ok_and(|kind| kind.has_text());
+        if has_text {
+            signed + PREVIOUS_SIZE + usize::from(self.size)
+        } else {
+            signed
+        }
     }
 }

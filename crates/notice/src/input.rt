@@ -1,31 +1,32 @@
 // The input of the digest rule, written from its parts.
 ghost use Rattle.std.specs.Prelude.{◌≡◌, ℕ, ◌+◌, List, ◌++◌, length, drop, if◌then◌else◌, Some, None};
-ghost use Rattle.notice.specs.Input.{digest_input, has_input_room};
+ghost use Rattle.notice.specs.declared.spans.Span.{Span};
+ghost use Rattle.notice.specs.Limits.{input_head};
+ghost use Rattle.notice.specs.Input.{digest_input, has_input_room, Determines};
 
-use super::limits::{INPUT_HEAD, TEXT_LIMIT};
+use super::limits::{INPUT_HEAD, PREVIOUS_SIZE, TEXT_LIMIT};
+use super::spans::Span;
 use statement::put;
 
-// Writes the input to the front of the area and tells its length. A text over its limit, or an area too
-// short, gives none and leaves the area as it is. The bytes determine the parts.
+/// Writes the input to the front of the area and tells its length. A text over its limit, or an area too
+/// short, gives none and leaves the area as it is. The bytes determine the parts.
 pub fn write_input(
-    queue: u8,
-    old: u32,
-    new: u32,
-    previous: &[u8; 32],
+    span: &Span,
+    previous: &[u8; PREVIOUS_SIZE],
     text: &[u8],
     area: &mut [u8],
 ) -> Option<usize>
-    ensures answers { result ≡ (if has_input_room (length text.now) (length area.old) then Some (41 + length text.now) else None) }
-    ensures area { area.new ≡ (if has_input_room (length text.now) (length area.old) then digest_input queue old new previous.now text.now ++ drop (41 + length text.now) area.old else area.old) }
-    ensures determines { (q o n : ℕ) (d t : List ℕ) → length d ≡ 32 → digest_input q o n d t ≡ digest_input queue old new previous.now text.now → (q ≡ queue) × (o ≡ old) × (n ≡ new) × (d ≡ previous.now) × (t ≡ text.now) }
+    ensures answers { result ≡ (if has_input_room (length text.now) (length area.old) then Some (input_head + length text.now) else None) }
+    ensures area { area.new ≡ (if has_input_room (length text.now) (length area.old) then digest_input span.now.lane span.now.old span.now.new previous.now text.now ++ drop (input_head + length text.now) area.old else area.old) }
+    ensures determines { Determines span.now previous.now text.now }
 {
     let size = text.len();
     if size > TEXT_LIMIT || area.len() < INPUT_HEAD + size {
         return None;
     }
-    put(area, 0, &[queue]);
-    put(area, 1, &old.to_be_bytes());
-    put(area, 5, &new.to_be_bytes());
+    put(area, 0, &[span.lane]);
+    put(area, 1, &span.old.to_be_bytes());
+    put(area, 5, &span.new.to_be_bytes());
     put(area, 9, previous);
     put(area, INPUT_HEAD, text);
     Some(INPUT_HEAD + size)

@@ -4,11 +4,16 @@
 mod answer;
 mod input;
 mod limits;
-mod record;
+mod reading;
+mod spans;
 mod writer;
 
-pub use answer::{ANSWER_HEAD, ANSWER_LIMIT, Kind, answer_length};
+pub use answer::{AnswerHead, Kind, UnknownKind};
 pub use input::write_input;
-pub use limits::{INPUT_HEAD, INPUT_LIMIT, RECORD_HEAD, RECORD_LIMIT, TEXT_LIMIT};
-pub use record::{counter, is_record, new, old, previous, queue, signed, size, spans, text};
+pub use limits::{
+    ANSWER_HEAD, ANSWER_LIMIT, INPUT_HEAD, INPUT_LIMIT, PREVIOUS_SIZE, RECORD_HEAD, RECORD_LIMIT,
+    TEXT_LIMIT,
+};
+pub use reading::Record;
+pub use spans::Span;
 pub use writer::write_record;

@@ -1,13 +1,28 @@
 // How long texts, records and digest inputs are.
 
+/// A signed statement's bytes.
+pub(crate) const SIGNED_STATEMENT_SIZE: usize = 81;
+
+/// The previous digest's bytes.
+pub const PREVIOUS_SIZE: usize = 32;
+
+/// The longest text.
 pub const TEXT_LIMIT: usize = 200;
 
-// A record before its text: signed statement 81, previous digest 32, text length 1.
-pub const RECORD_HEAD: usize = 114;
+/// A record before its text: the signed statement, the previous digest and the text length.
+pub const RECORD_HEAD: usize = SIGNED_STATEMENT_SIZE + PREVIOUS_SIZE + 1;
 
-pub const RECORD_LIMIT: usize = 314;
+/// The longest record.
+pub const RECORD_LIMIT: usize = RECORD_HEAD + TEXT_LIMIT;
 
-// The digest rule's input before the text: queue 1, old 4, new 4, previous digest 32.
-pub const INPUT_HEAD: usize = 41;
+/// The digest rule's input before the text: queue 1, old 4, new 4 and the previous digest.
+pub const INPUT_HEAD: usize = 1 + 4 + 4 + PREVIOUS_SIZE;
 
-pub const INPUT_LIMIT: usize = 241;
+/// The longest input of the digest rule.
+pub const INPUT_LIMIT: usize = INPUT_HEAD + TEXT_LIMIT;
+
+/// An answer before its statements: kind, number of statements and text length.
+pub const ANSWER_HEAD: usize = 3;
+
+/// The longest answer: the end's, with two signed statements, the previous digest and a text.
+pub const ANSWER_LIMIT: usize = ANSWER_HEAD + 2 * SIGNED_STATEMENT_SIZE + PREVIOUS_SIZE + TEXT_LIMIT;

@@ -1,20 +1,21 @@
 // A record, written from its parts.
 ghost use Rattle.std.specs.Prelude.{◌≡◌, ◌+◌, ◌++◌, length, drop, if◌then◌else◌, Some, None};
+ghost use Rattle.notice.specs.Limits.{record_head};
 ghost use Rattle.notice.specs.Record.{recorded, has_room, Tells};
 
-use super::limits::{RECORD_HEAD, TEXT_LIMIT};
+use super::limits::{PREVIOUS_SIZE, RECORD_HEAD, SIGNED_STATEMENT_SIZE, TEXT_LIMIT};
 use statement::{SignedStatement, put};
 
-// Writes the record to the front of the area and tells its length. A text over its limit, or an area too
-// short, gives none and leaves the area as it is.
+/// Writes the record to the front of the area and tells its length. A text over its limit, or an area too
+/// short, gives none and leaves the area as it is.
 pub fn write_record(
     signed: &SignedStatement,
-    previous: &[u8; 32],
+    previous: &[u8; PREVIOUS_SIZE],
     text: &[u8],
     area: &mut [u8],
 ) -> Option<usize>
-    ensures answers { result ≡ (if has_room (length text.now) (length area.old) then Some (114 + length text.now) else None) }
-    ensures area { area.new ≡ (if has_room (length text.now) (length area.old) then recorded signed.now previous.now text.now ++ drop (114 + length text.now) area.old else area.old) }
+    ensures answers { result ≡ (if has_room (length text.now) (length area.old) then Some (record_head + length text.now) else None) }
+    ensures area { area.new ≡ (if has_room (length text.now) (length area.old) then recorded signed.now previous.now text.now ++ drop (record_head + length text.now) area.old else area.old) }
     ensures back { Tells signed.now previous.now text.now (recorded signed.now previous.now text.now) }
 {
     let size = text.len();
@@ -23,8 +24,12 @@ pub fn write_record(
         return None;
     }
     put(area, 0, &head);
-    put(area, 81, previous);
-    put(area, 113, &[size as u8]);
+    put(area, SIGNED_STATEMENT_SIZE, previous);
+    put(
+        area,
+        SIGNED_STATEMENT_SIZE + PREVIOUS_SIZE,
+        &[size as u8],
+    );
     put(area, RECORD_HEAD, text);
     Some(RECORD_HEAD + size)
 }

@@ -1,18 +1,10 @@
 -- What put answers, test by test, and what its answer tells.
-use Rattle.std.proofs.Common.{◌≡◌, ℕ, Bool, true, false, List, [], ◌∷◌, ◌++◌, is_ok, Ok, Err, sym, ap, ◌∙◌, ⊎_elim, arith}
+use Rattle.std.proofs.Common.{◌≡◌, ℕ, Bool, true, false, List, [], ◌∷◌, ◌++◌, is_ok, Ok, Err, ap, ◌∙◌, ⊎_elim, arith}
 use Rattle.std.proofs.lemmas.Bool.{cases_Bool, cond-true, cond-false}
-use Rattle.notice.specs.Record.{counter_of, queue_of, old_of, new_of, is_record}
+use Rattle.notice.specs.Record.{counter_of, is_record}
 use Rattle.store.specs.declared.fault.StoreFault.{StoreFault}
 use Rattle.store.specs.declared.fault.StoreFault.TheVariants.{BadRecord, AlreadySpanned, DoesNotFit}
-use Rattle.store.specs.Meaning.{Bytes, any_meets, spanned, putting, after_put}
-
--- a search for the record's own span
-pub spanned_by :
-    (held : List Bytes) (r : Bytes) (q o n : ℕ) (b : Bool) → q ≡ queue_of r → o ≡ old_of r → n ≡ new_of r →
-    b ≡ any_meets q o n held → spanned held r ≡ b
-unfolding spanned
-spanned_by held r q o n b e f g h =
-    sym (h ∙ (ap (λ z. any_meets z o n held) e ∙ (ap (λ z. any_meets (queue_of r) z n held) f ∙ ap (λ z. any_meets (queue_of r) (old_of r) z held) g)))
+use Rattle.store.specs.Meaning.{Bytes, spanned, putting, after_put}
 
 module _ (fits : Bool) (held : List Bytes) (r : Bytes) where
   pub putting-bad : is_record r ≡ false → putting fits held r ≡ Err BadRecord

@@ -5,7 +5,7 @@ use Rattle.std.proofs.lemmas.List.Filters.{sum_by-filter_both}
 use Rattle.std.proofs.lemmas.List.Sorted.{sum_by-IsPermutation}
 use Rattle.std.proofs.lemmas.List.Sums.{sum_by-cons, sum_by_push}
 use Rattle.std.proofs.lemmas.Bool.{and_parts, and_from, or_parts, both_ways, cases_Bool, cond-true, cond-false, eqb-true, eq-eqb, ltb-true, lt-ltb, leb-true}
-use Rattle.notice.specs.Record.{queue_of, old_of, new_of, is_record, covers}
+use Rattle.notice.specs.Record.{queue_of, old_of, new_of, span_of, is_record, covers}
 use Rattle.store.specs.Meaning.{Bytes, are_records, Records, Apart, meets, any_meets, spanned, found}
 
 pub records_push : (rs : List Bytes) (r : Bytes) → Records rs → is_record r ≡ true → Records (rs ++ r ∷ [])
@@ -22,7 +22,7 @@ records_kept p (r ∷ rs) h =
 
 -- two records that cover one position of a queue share it
 both_cover :
-    (q p : ℕ) (r s : Bytes) → covers q p r ≡ true → covers q p s ≡ true → meets (queue_of r) (old_of r) (new_of r) s ≡ true
+    (q p : ℕ) (r s : Bytes) → covers q p r ≡ true → covers q p s ≡ true → meets (span_of r) s ≡ true
 unfolding covers meets
 both_cover q p r s h g =
     let a = and_parts (eqb (queue_of r) q) _ h in
@@ -39,11 +39,11 @@ both_cover q p r s h g =
 
 -- no position of a record that meets none of the others is covered by them
 none_covers :
-    (q p : ℕ) (r : Bytes) (rs : List Bytes) → covers q p r ≡ true → any_meets (queue_of r) (old_of r) (new_of r) rs ≡ false →
+    (q p : ℕ) (r : Bytes) (rs : List Bytes) → covers q p r ≡ true → any_meets (span_of r) rs ≡ false →
     count_by (covers q p) rs ≡ 0
 none_covers q p r [] h m = refl
 none_covers q p r (s ∷ rs) h m =
-    let a = or_parts (meets (queue_of r) (old_of r) (new_of r) s) _ m in
+    let a = or_parts (meets (span_of r) s) _ m in
     let c = none_covers q p r rs h a.1 in
     let z : covers q p s ≡ false =
     ⊎_elim (λ t. absurd (both_ways _ a.0 (both_cover q p r s h t))) (λ f. f) (cases_Bool (covers q p s)) in

@@ -1,5 +1,5 @@
 -- What each fault of a store is told as: its number, its place and who found it.
-use Rattle.std.specs.Prelude.{ℕ, List, codes}
+use Rattle.std.specs.Prelude.{ℕ, List, ◌++◌, codes, decimal}
 use Rattle.store.specs.declared.fault.StoreFault.{StoreFault}
 use Rattle.store.specs.declared.fault.StoreFault.TheVariants.{BadRecord, AlreadySpanned, DoesNotFit, WrongArea, ShortArea}
 
@@ -24,3 +24,8 @@ finder_of (AlreadySpanned c) = codes "store"
 finder_of (DoesNotFit c) = codes "store"
 finder_of WrongArea = codes "store"
 finder_of ShortArea = codes "store"
+
+-- what is printed of it, as in 'refused 8 by store at 3'
+abbrev pub shown_of : StoreFault → List ℕ
+shown_of fault =
+    codes "refused " ++ (decimal (number_of fault) ++ (codes " by " ++ (finder_of fault ++ (codes " at " ++ decimal (place_of fault)))))

@@ -1,24 +1,26 @@
 // What a store refuses: the cases, their numbers, places and finder.
-ghost use Rattle.std.specs.Prelude.{◌≡◌};
-ghost use Rattle.store.specs.Faults.{number_of, place_of, finder_of};
+ghost use Rattle.std.specs.Prelude.{◌≡◌, Some};
+ghost use Rattle.store.specs.Faults.{number_of, place_of, finder_of, shown_of};
 
 use std::fmt;
 
+/// Why a store did not do what it was asked.
 #[derive(Clone, Copy, PartialEq, Eq, Debug)]
 pub enum StoreFault {
-    // These bytes are no record of the high counter of a queue.
+    /// These bytes are no record of the high counter of a queue.
     BadRecord,
-    // A position of this counter's queue is already spanned.
+    /// A position of this counter's queue is already spanned.
     AlreadySpanned(u8),
-    // The record of this counter does not fit.
+    /// The record of this counter does not fit.
     DoesNotFit(u8),
-    // The lent area, or the number of rows, is not one that the store can use.
+    /// The lent area, or the number of rows, is not one that the store can use.
     WrongArea,
-    // The area lent for a record is too short.
+    /// The area lent for a record is too short.
     ShortArea,
 }
 
 impl StoreFault {
+    /// The number that stands for this fault.
     pub fn number(&self) -> u32
         ensures answers { result ≡ number_of self.now }
     {
@@ -31,7 +33,7 @@ impl StoreFault {
         }
     }
 
-    // The counter of the record, or 0.
+    /// The counter of the record, or 0.
     pub fn place(&self) -> u32
         ensures answers { result ≡ place_of self.now }
     {
@@ -42,6 +44,7 @@ impl StoreFault {
         }
     }
 
+    /// Who found it.
     pub fn finder(&self) -> &'static str
         ensures answers { result.now ≡ finder_of self.now }
     {
@@ -50,6 +53,8 @@ impl StoreFault {
 }
 
 impl fmt::Display for StoreFault {
+    ghost output = { λ x. Some (shown_of x) };
+
     fn fmt<W: fmt::Write>(&self, f: &mut fmt::Formatter<W>) -> fmt::Result {
         let number = self.number();
         let finder = self.finder();

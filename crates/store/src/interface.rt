@@ -1,10 +1,13 @@
 // What every store shows: the records held and the lengths that fit, and what each call makes of them.
-ghost use Rattle.std.specs.Prelude.{◌≡◌, ℕ, Bool, true, false, List, length, is_ok, filter};
+ghost use Rattle.std.specs.Prelude.{◌≡◌, ℕ, Bool, List, length, filter};
 ghost use Rattle.std.specs.List.Sorted.{IsPermutation};
-ghost use Rattle.store.specs.Meaning.{Bytes, Records, Apart, putting, after_put, covering, covered, stays};
+ghost use Rattle.std.specs.Result.{OnErr};
+ghost use Rattle.store.specs.Meaning.{Bytes, Records, Apart, any_meets, putting, after_put, covering, covered, stays};
 
 use super::fault::StoreFault;
+use notice::{Record, Span};
 
+/// A set of records, no two of one queue sharing a position, in memory of any kind.
 pub trait Store {
     // The records, in an order that only forget may change.
     ghost held: { Self → List Bytes };
@@ -16,26 +19,51 @@ pub trait Store {
 
     ghost apart: { (s : Self) → Apart (held s) };
 
-    // Adds a record.
+    /// Adds a record, or refuses it as `admit` does and stays as it is.
     fn put(&mut self, record: &[u8]) -> Result<(), StoreFault>
         ensures answers { result ≡ putting (fits self.old (length «record».now)) (held self.old) «record».now }
         ensures becomes { held self.new ≡ after_put (fits self.old (length «record».now)) (held self.old) «record».now }
-        ensures keeps { is_ok result ≡ false → (n : ℕ) → fits self.new n ≡ fits self.old n };
+        ensures keeps { OnErr result ((n : ℕ) → fits self.new n ≡ fits self.old n) };
 
-    // Tells whether a record of this length fits.
+    /// Tells whether a record of this length fits.
     fn takes(&self, size: usize) -> bool
         ensures answers { result ≡ fits self.now size };
 
-    // Tells the number of records.
+    /// Tells whether a record of the span's lane shares a position with the span.
+    fn is_spanned(&self, span: &Span) -> bool
+        ensures answers { result ≡ any_meets span.now (held self.now) };
+
+    /// Tells the number of records.
     fn count(&self) -> usize
         ensures answers { result ≡ length (held self.now) };
 
-    // Copies the record that spans the position to the front of the area and tells its length, or tells none.
+    /// Copies the record that spans the position to the front of the area and tells its length, or tells none.
     fn cover(&self, queue: u8, position: u32, area: &mut [u8]) -> Result<Option<usize>, StoreFault>
         ensures answers { result ≡ covering (held self.now) queue position area.old }
         ensures area { area.new ≡ covered (held self.now) queue position area.old };
 
-    // Removes the records of the queue whose new is below a number.
+    /// Removes the records of the queue whose new is below a number.
     fn forget(&mut self, queue: u8, below: u32)
         ensures becomes { IsPermutation (filter (stays queue below) (held self.old)) (held self.new) };
+
+    /// The tests of `put`, in their order: the bytes are a record of the high counter of a queue, none of its
+    /// positions is spanned, and it fits. Nothing is added.
+    #[tactic(auto, unfolding(crate::specs::Meaning::putting, crate::specs::Meaning::spanned))]
+    fn admit(&self, record: &[u8]) -> Result<(), StoreFault>
+        ensures answers { result ≡ putting (fits self.now (length «record».now)) (held self.now) «record».now }
+    {
+        let size = record.len();
+        let record = Record::from(record);
+        if !record.is_valid() {
+            return Err(StoreFault::BadRecord);
+        }
+        let counter = record.counter();
+        if self.is_spanned(&record.span()) {
+            return Err(StoreFault::AlreadySpanned(counter));
+        }
+        if !self.takes(size) {
+            return Err(StoreFault::DoesNotFit(counter));
+        }
+        Ok(())
+    }
 }

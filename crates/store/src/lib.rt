@@ -1,12 +1,10 @@
-// What every store of records means, its faults, and the tests of spans that stores share.
+// What every store of records means, and its faults.
 #![tactic(auto)]
 
 mod fault;
 mod interface;
 mod laws;
-mod span;
 
 pub use fault::StoreFault;
 pub use interface::Store;
-pub use laws::records_are_found;
-pub use span::{is_kept, is_met};
+pub use laws::found_while_put_and_not_forgotten;

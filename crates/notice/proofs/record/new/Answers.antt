@@ -1,6 +1,0 @@
-use Rattle.notice.specs.Record.{new_of}
-use Rattle.notice.proofs.record.new.Goals as goal
-
-pub returns : goal.returns
-unfolding new_of
-returns c = record { answers = c.number_at.ensures.answers }

@@ -1,6 +1,0 @@
-use Rattle.notice.specs.Record.{old_of}
-use Rattle.notice.proofs.record.old.Goals as goal
-
-pub returns : goal.returns
-unfolding old_of
-returns c = record { answers = c.number_at.ensures.answers }
