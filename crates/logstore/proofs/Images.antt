@@ -1,11 +1,13 @@
 -- The bytes of a log tell its records, and a log stays one when a record is laid behind the last or some are left out.
-use Rattle.std.proofs.Common.{◌≡◌, ℕ, zero, suc, ◌+◌, ◌-◌, ◌*◌, ◌≤◌, Bool, true, false, leb, List, [], ◌∷◌, ◌++◌, length, take, drop, replicate, filter, sym, refl, ap, ◌∙◌, subst, append_assoc, arith}
-use Rattle.std.proofs.lemmas.List.{append-nil, drop_at, drop-append-le, drop-drop, drop-replicate, length-append, length_push, length-replicate, length-take-le, replicate-append-replicate, take_at}
+use Rattle.std.proofs.Common.{◌≡◌, ℕ, zero, suc, ◌+◌, ◌-◌, ◌≤◌, Bool, true, false, leb, List, [], ◌∷◌, ◌++◌, length, take, drop, replicate, filter, Some, sym, refl, ap, ◌∙◌, subst, append_assoc, arith}
+use Rattle.std.proofs.lemmas.List.{append-nil, drop_at, drop-append-le, drop-drop, drop-replicate, length-append, length_push, length-replicate, replicate-append-replicate, take_at}
 use Rattle.std.proofs.lemmas.Bool.{cond_both, leb-true, and_from, le-leb}
 use Rattle.notice.specs.Record.{is_record}
-use Rattle.store.specs.Meaning.{Bytes, Records, Apart, spanned}
-use Rattle.logstore.specs.Log.{two, framed, laid, log_of, log_space, size_at, first, rest, parse, Layout, SoundLog}
-use Rattle.store.proofs.Sets.{records_push, apart_push, records_kept, apart_kept}
+use Rattle.store.specs.Meaning.{Bytes, Records, Apart, found, spanned}
+use Rattle.logstore.specs.Log.{length_size, log_limit, two, laid, log_of, log_space, size_at, first, rest, parse, Layout, SoundLog}
+use Rattle.store.proofs.Sets.{records_push, apart_push, records_kept, apart_kept, found_good}
+use Rattle.notice.proofs.Records.{record_short}
+use Rattle.notice.specs.Limits.{record_limit}
 
 size_of_laid : (n : ℕ) (bytes : List ℕ) → size_at (two n ++ bytes) ≡ n
 unfolding size_at
@@ -20,7 +22,7 @@ rest-laid : (r : Bytes) (bytes : List ℕ) → rest (two (length r) ++ (r ++ byt
 unfolding rest
 rest-laid r bytes =
     let all = two (length r) ++ (r ++ bytes) in
-    ap (λ k. drop (2 + k) all) (size_of_laid (length r) (r ++ bytes))
+    ap (λ k. drop (length_size + k) all) (size_of_laid (length r) (r ++ bytes))
     ∙ (sym (drop-drop (length r) 2 all) ∙ drop_at r bytes (length r) refl)
 
 laid_cons : (r : Bytes) (rs : List Bytes) (zs : List ℕ) → laid (r ∷ rs) ++ zs ≡ two (length r) ++ (r ++ (laid rs ++ zs))
@@ -41,8 +43,8 @@ layout_laid (r ∷ rs) zs =
     let bytes = two (length r) ++ (r ++ (laid rs ++ zs)) in
     let s = size_of_laid (length r) (r ++ (laid rs ++ zs)) in
     subst (Layout (suc (length rs))) (sym (laid_cons r rs zs))
-    (and_from (leb (2 + size_at bytes) (length bytes)) _
-    (le-leb (2 + size_at bytes) (length bytes) (omega (arith, s, length-append r (laid rs ++ zs))))
+    (and_from (leb (length_size + size_at bytes) (length bytes)) _
+    (le-leb (length_size + size_at bytes) (length bytes) (omega (arith, s, length-append r (laid rs ++ zs))))
     (subst (Layout (length rs)) (sym (rest-laid r (laid rs ++ zs))) (layout_laid rs zs)))
 
 pub length_parse : (n : ℕ) (bytes : List ℕ) → length (parse n bytes) ≡ n
@@ -60,14 +62,14 @@ pub count_le_reach : (rs : List Bytes) → length rs ≤ length (laid rs)
 count_le_reach [] = omega arith
 count_le_reach (r ∷ rs) = let h = count_le_reach rs in omega (arith, length-append r (laid rs))
 
-pub space_bounds : (n : ℕ) → (log_space n ≤ n) × (log_space n ≤ 65536)
+pub space_bounds : (n : ℕ) → (log_space n ≤ n) × (log_space n ≤ log_limit)
 space_bounds n = (
-  cond_both (leb n 65536) n 0 (λ z. z ≤ n) (λ h. omega arith) (λ h. omega arith),
-  cond_both (leb n 65536) n 0 (λ z. z ≤ 65536) (λ h. leb-true n 65536 h) (λ h. omega arith),
+  cond_both (leb n log_limit) n 0 (λ z. z ≤ n) (λ h. omega arith) (λ h. omega arith),
+  cond_both (leb n log_limit) n 0 (λ z. z ≤ log_limit) (λ h. leb-true n log_limit h) (λ h. omega arith),
 )
 
 -- no log has more records than bytes
-pub few : (area : List ℕ) (used count : ℕ) → SoundLog area used count → count ≤ 65536
+pub few : (area : List ℕ) (used count : ℕ) → SoundLog area used count → count ≤ log_limit
 few area used count s =
     let rs = parse count area in
     omega (arith, s.reach, s.full, count_le_reach rs, length_parse count area, (space_bounds (length area)).1)
@@ -130,9 +132,9 @@ sound_parts area used count room s e =
 -- a record laid behind the last
 pub appended :
     (area area' : List ℕ) (used count room : ℕ) (r : Bytes) → SoundLog area used count → room ≡ log_space (length area) →
-    length area' ≡ length area → is_record r ≡ true → spanned (parse count area) r ≡ false → used + (2 + length r) ≤ room →
-    area' ≡ take used area ++ (two (length r) ++ (r ++ drop (used + (2 + length r)) area)) →
-    SoundLog area' (used + (2 + length r)) (count + 1) × (parse (count + 1) area' ≡ parse count area ++ r ∷ [])
+    length area' ≡ length area → is_record r ≡ true → spanned (parse count area) r ≡ false → used + (length_size + length r) ≤ room →
+    area' ≡ take used area ++ (two (length r) ++ (r ++ drop (used + (length_size + length r)) area)) →
+    SoundLog area' (used + (length_size + length r)) (count + 1) × (parse (count + 1) area' ≡ parse count area ++ r ∷ [])
     × (drop room area' ≡ drop room area)
 appended area area' used count room r s space long good free fits e =
     let rs = parse count area in
@@ -157,25 +159,26 @@ appended area area' used count room r s space long good free fits e =
 
 -- records left out, those that stay moved together, and what they leave zeroed
 pub left_out :
-    (p : Bytes → Bool) (area area' area'' : List ℕ) (used count used' count' room : ℕ) → SoundLog area used count →
-    room ≡ log_space (length area) →
-    take used' area' ≡ laid (filter p (parse count area)) → count' ≡ length (filter p (parse count area)) → used' ≤ used →
-    length area' ≡ length area → length area'' ≡ length area → drop used area' ≡ drop used area →
-    area'' ≡ take used' area' ++ (replicate (used - used') 0 ++ drop used area') →
-    SoundLog area'' used' count' × (parse count' area'' ≡ filter p (parse count area)) × (drop room area'' ≡ drop room area)
-left_out p area area' area'' used count used' count' room s space front n reach long' long'' back e =
+    (p : Bytes → Bool) (area area' : List ℕ) (used count used' count' room : ℕ) → SoundLog area used count →
+    room ≡ log_space (length area) → length area' ≡ length area →
+    area' ≡ laid (filter p (parse count area)) ++ (replicate (used - used') 0 ++ drop used area) →
+    used' ≡ length (laid (filter p (parse count area))) → count' ≡ length (filter p (parse count area)) → used' ≤ used →
+    SoundLog area' used' count' × (parse count' area' ≡ filter p (parse count area)) × (drop room area' ≡ drop room area)
+left_out p area area' used count used' count' room s space long e u n less =
     let ks = filter p (parse count area) in
     let others = drop room area in
-    let parts = sound_parts area used count room s space in
     let full : used ≤ room = subst (λ m. used ≤ m) (sym space) s.full in
     let z : replicate (used - used') 0 ++ (replicate (room - used) 0 ++ others) ≡ replicate (room - used') 0 ++ others =
     sym (append_assoc (replicate (used - used') 0) (replicate (room - used) 0) others)
     ∙ (ap (λ y. y ++ others) (replicate-append-replicate (used - used') (room - used) 0)
     ∙ ap (λ m. replicate m 0 ++ others) (omega arith)) in
-    let f : area'' ≡ laid ks ++ (replicate (room - used') 0 ++ others) =
-    e ∙ (ap (λ y. y ++ (replicate (used - used') 0 ++ drop used area')) front
-    ∙ (ap (λ y. laid ks ++ (replicate (used - used') 0 ++ y)) (back ∙ parts.1) ∙ ap (λ y. laid ks ++ y) z)) in
-    let whole : used ≤ length area = omega (arith, ap length (sound_area area used count room s space), length-append (laid (parse count area)) (replicate (room - used) 0 ++ others), s.reach) in
-    let u : used' ≡ length (laid ks) = sym (length-take-le used' area' (omega arith)) ∙ ap length front in
-    image_sound ks area'' others room used' count' (space ∙ ap log_space (sym long'')) f u n (omega arith)
+    let f : area' ≡ laid ks ++ (replicate (room - used') 0 ++ others) =
+    e ∙ (ap (λ y. laid ks ++ (replicate (used - used') 0 ++ y)) (sound_parts area used count room s space).1 ∙ ap (λ y. laid ks ++ y) z) in
+    image_sound ks area' others room used' count' (space ∙ ap log_space (sym long)) f u n (omega arith)
     (records_kept p (parse count area) s.good) (apart_kept p (parse count area) s.apart)
+
+-- what is found is a record, and none is longer than 314 bytes
+pub found_short :
+    (area : List ℕ) (used count q p : ℕ) (r : Bytes) → SoundLog area used count →
+    Some r ≡ found q p (parse count area) → length r ≤ record_limit
+found_short area used count q p r s f = omega (arith, record_short r (found_good q p (parse count area) r s.good (sym f)))

@@ -1,7 +1,9 @@
 // The calls of the log store.
-ghost use Rattle.std.specs.Prelude.{◌≡◌, ℕ, ◌+◌, true, false, [], ◌∷◌, ◌++◌, length, drop, replicate, is_ok, if◌then◌else◌, Some, None, filter, nat_le};
+ghost use Rattle.std.specs.Prelude.{◌≡◌, ℕ, ◌+◌, ◌≤◌, IfSome, true, false, [], ◌∷◌, ◌++◌, length, drop, replicate, is_ok, if◌then◌else◌, Some, None, filter, nat_le};
 ghost use Rattle.std.specs.List.Sorted.{IsPermutation};
 ghost use Rattle.std.specs.Option.{option_map};
+ghost use Rattle.std.specs.Result.{OnErr};
+ghost use Rattle.notice.specs.Limits.{record_limit};
 ghost use Rattle.notice.specs.Record.{is_record};
 ghost use Rattle.store.specs.declared.fault.StoreFault.TheVariants.{WrongArea};
 ghost use Rattle.store.specs.Meaning.{putting, after_put, covering, covered, any_meets, found, spanned, stays};
@@ -9,11 +11,10 @@ ghost use Rattle.logstore.specs.Log.{log_limit, log_space, log_takes, parse};
 ghost use Rattle.logstore.specs.LogStores.{log_held, log_fits, log_area, log_room, Kept};
 
 use super::edit::{compact, lay};
-use super::extent::Extent;
 use super::records::{LENGTH_SIZE, Records};
-use super::types::LogStore;
-use notice::RECORD_LIMIT;
-use store::{Store, StoreFault, is_met};
+use super::types::{Extent, LogStore};
+use notice::{RECORD_LIMIT, Record, Span};
+use store::{Store, StoreFault};
 
 /// The bytes of the largest area that a log can use.
 const LOG_LIMIT: usize = 65536;
@@ -62,53 +63,13 @@ impl<'a> LogStore<'a> {
         }
     }
 
-    /// Whether a record of a size fits, after its length.
-    fn has_room(&self, size: usize) -> bool
-        ensures answers { result ≡ log_fits self.now size }
-    {
-        let Some(room) = usable(self.area.len()) else {
-            return false;
-        };
-        let free = room - self.held.used;
-        free >= LENGTH_SIZE && size <= free - LENGTH_SIZE
-    }
-
-    /// Whether a record of the queue shares a position with the span from old + 1 to new.
-    #[tactic(auto, using(crate::proofs::Logs::any_meets_list_any))]
-    fn is_spanned(&self, queue: u8, old: u32, new: u32) -> bool
-        ensures answers { result ≡ any_meets queue old new (log_held self.now) }
-    {
-        self.records().any(|held| is_met(held, queue, old, new))
-    }
-
     /// The record of the queue that spans the position.
-    #[tactic(auto, using(crate::proofs::Logs::found_find))]
+    #[tactic(auto, unfolding(notice::specs::Record::covers))]
     fn find(&self, queue: u8, position: u32) -> Option<&[u8]>
         ensures answers { option_map (λ r. r.now) result ≡ found queue position (log_held self.now) }
+        ensures short { IfSome result (λ r. length r.now ≤ record_limit) }
     {
-        self.records()
-            .find(|record| notice::spans(record, queue, position))
-    }
-
-    /// What put answers.
-    fn may_add(&self, record: &[u8]) -> Result<(), StoreFault>
-        ensures answers { result ≡ putting (log_fits self.now (length «record».now)) (log_held self.now) «record».now }
-    {
-        if !notice::is_record(record) {
-            return Err(StoreFault::BadRecord);
-        }
-        let counter = notice::counter(record);
-        if self.is_spanned(
-            notice::queue(record),
-            notice::old(record),
-            notice::new(record),
-        ) {
-            return Err(StoreFault::AlreadySpanned(counter));
-        }
-        if !self.has_room(record.len()) {
-            return Err(StoreFault::DoesNotFit(counter));
-        }
-        Ok(())
+        self.records().find(|record| Record::from(*record).span().contains(queue, position))
     }
 
     /// Lays a record behind the last.
@@ -140,11 +101,11 @@ impl<'a> Store for LogStore<'a> {
     fn put(&mut self, record: &[u8]) -> Result<(), StoreFault>
         ensures answers { result ≡ putting (log_fits self.old (length «record».now)) (log_held self.old) «record».now }
         ensures becomes { log_held self.new ≡ after_put (log_fits self.old (length «record».now)) (log_held self.old) «record».now }
-        ensures keeps { is_ok result ≡ false → (n : ℕ) → log_fits self.new n ≡ log_fits self.old n }
+        ensures keeps { OnErr result ((n : ℕ) → log_fits self.new n ≡ log_fits self.old n) }
         ensures log { Kept self.old self.new }
-        ensures untouched { is_ok result ≡ false → log_area self.new ≡ log_area self.old }
+        ensures untouched { OnErr result (log_area self.new ≡ log_area self.old) }
     {
-        self.may_add(record)?;
+        self.admit(record)?;
         self.append(record);
         Ok(())
     }
@@ -153,7 +114,19 @@ impl<'a> Store for LogStore<'a> {
         ensures answers { result ≡ log_fits self.now size }
         ensures log { result ≡ log_takes (log_room self.now) (log_held self.now) size }
     {
-        self.has_room(size)
+        let Some(room) = usable(self.area.len()) else {
+            return false;
+        };
+        let free = room - self.held.used;
+        free >= LENGTH_SIZE && size <= free - LENGTH_SIZE
+    }
+
+    #[tactic(auto, unfolding(store::specs::Meaning::meets))]
+    fn is_spanned(&self, span: &Span) -> bool
+        ensures answers { result ≡ any_meets span.now (log_held self.now) }
+    {
+        self.records()
+            .any(|record| Record::from(record).span().meets(span))
     }
 
     #[tactic(auto, using(crate::proofs::Images::length_parse))]
@@ -163,6 +136,7 @@ impl<'a> Store for LogStore<'a> {
         self.held.count
     }
 
+    #[tactic(auto, unfolding(store::specs::Meaning::covering, store::specs::Meaning::covered))]
     fn cover(&self, queue: u8, position: u32, area: &mut [u8]) -> Result<Option<usize>, StoreFault>
         ensures answers { result ≡ covering (log_held self.now) queue position area.old }
         ensures area { area.new ≡ covered (log_held self.now) queue position area.old }
@@ -182,8 +156,6 @@ impl<'a> Store for LogStore<'a> {
         ensures order { log_held self.new ≡ filter (stays queue below) (log_held self.old) }
         ensures log { Kept self.old self.new }
     {
-        let kept = compact(self.area, self.held.count, queue, below);
-        self.area[kept.used..self.held.used].fill(0);
-        self.held = kept;
+        self.held = compact(self.area, self.held, queue, below);
     }
 }

@@ -1,18 +1,18 @@
 // Changes of a log's area: a record laid behind the last, and kept records moved together.
-ghost use Rattle.std.specs.Prelude.{◌≡◌, ℕ, ◌+◌, ◌<◌, ◌≤◌, ◌++◌, length, take, drop, filter};
+ghost use Rattle.std.specs.Prelude.{◌≡◌, ℕ, ◌+◌, ◌<◌, ◌≤◌, ◌-◌, ◌++◌, length, take, drop, replicate, filter};
 ghost use Rattle.store.specs.Meaning.{stays};
-ghost use Rattle.logstore.specs.Log.{two, laid, parse, Layout};
+ghost use Rattle.logstore.specs.Log.{length_size, log_limit, two, laid, parse, Layout};
 
-use super::extent::Extent;
 use super::records::{LENGTH_SIZE, split_first_record};
-use store::is_kept;
+use super::types::Extent;
+use notice::Record;
 
 /// Lays a record at a place, after its length.
 #[tactic(auto, using(crate::proofs::Logs::written_behind))]
 pub(crate) fn lay(area: &mut [u8], at: usize, record: &[u8])
-    requires room { at + (2 + length «record».now) ≤ length area.old }
-    requires short { length «record».now < 65536 }
-    ensures area { area.new ≡ take at area.old ++ (two (length «record».now) ++ («record».now ++ drop (at + (2 + length «record».now)) area.old)) }
+    requires room { at + (length_size + length «record».now) ≤ length area.old }
+    requires short { length «record».now < log_limit }
+    ensures area { area.new ≡ take at area.old ++ (two (length «record».now) ++ («record».now ++ drop (at + (length_size + length «record».now)) area.old)) }
 {
     let size = record.len();
     let start = at + LENGTH_SIZE;
@@ -20,20 +20,22 @@ pub(crate) fn lay(area: &mut [u8], at: usize, record: &[u8])
     area[start..start + size].copy_from_slice(record);
 }
 
-/// Moves the records that stay together, in their order, and tells how far they reach and how many they are.
-pub(crate) fn compact(area: &mut [u8], count: usize, queue: u8, below: u32) -> Extent
-    requires lies { Layout count area.old }
-    ensures front { take result.used area.new ≡ laid (filter (stays queue below) (parse count area.old)) }
-    ensures number { result.count ≡ length (filter (stays queue below) (parse count area.old)) }
-    ensures reach { result.used ≤ length (laid (parse count area.old)) }
-    ensures back { (k : ℕ) → length (laid (parse count area.old)) ≤ k → drop k area.new ≡ drop k area.old }
+/// Moves the records that stay together, in their order, clears what they leave, and tells how far they reach and
+/// how many they are.
+pub(crate) fn compact(area: &mut [u8], held: Extent, queue: u8, below: u32) -> Extent
+    requires lies { Layout held.count area.old }
+    requires reach { held.used ≡ length (laid (parse held.count area.old)) }
+    ensures area { area.new ≡ laid (filter (stays queue below) (parse held.count area.old)) ++ (replicate (held.used - result.used) 0 ++ drop held.used area.old) }
+    ensures used { result.used ≡ length (laid (filter (stays queue below) (parse held.count area.old))) }
+    ensures count { result.count ≡ length (filter (stays queue below) (parse held.count area.old)) }
+    ensures less { result.used ≤ held.used }
 {
     let mut at = 0;
     let mut kept = Extent { used: 0, count: 0 };
-    for _ in 0..count {
+    for _ in 0..held.count {
         let (record, _) = split_first_record(&area[at..]);
         let size = LENGTH_SIZE + record.len();
-        if is_kept(record, queue, below) {
+        if Record::from(record).span().is_kept(queue, below) {
             area.copy_within(at..at + size, kept.used);
             kept = Extent {
                 used: kept.used + size,
@@ -42,5 +44,6 @@ pub(crate) fn compact(area: &mut [u8], count: usize, queue: u8, below: u32) -> E
         }
         at += size;
     }
+    area[kept.used..held.used].fill(0);
     kept
 }

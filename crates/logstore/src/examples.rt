@@ -5,5 +5,4 @@ ghost use Rattle.logstore.specs.Examples.{EmptyTextFits116Bytes, EmptyTextRefuse
 pub fn smallest_log_is_116_bytes()
     ensures fits { EmptyTextFits116Bytes }
     ensures refused { EmptyTextRefusedIn115Bytes }
-{
-}
+{}

@@ -4,7 +4,6 @@
 mod calls;
 mod edit;
 mod examples;
-mod extent;
 mod records;
 mod types;
 

@@ -1,7 +1,7 @@
 // Records end to end in bytes, each after its length.
 ghost use Rattle.std.specs.Prelude.{◌≡◌, ℕ, ◌+◌, ◌<◌, ◌≤◌, length, take, drop};
 ghost use Rattle.std.specs.Iterator.{YieldsFirstRef, item_count};
-ghost use Rattle.logstore.specs.Log.{framed, size_at, first, rest, parse, Layout};
+ghost use Rattle.logstore.specs.Log.{length_size, framed, size_at, first, rest, parse, Layout};
 
 /// The bytes of the length before each record.
 pub(crate) const LENGTH_SIZE: usize = 2;
@@ -9,7 +9,7 @@ pub(crate) const LENGTH_SIZE: usize = 2;
 /// The length in the first two bytes, high byte first.
 #[tactic(auto, unfolding(crate::specs::Log::size_at))]
 fn size_at(bytes: &[u8]) -> usize
-    requires inside { 2 ≤ length bytes.now }
+    requires inside { length_size ≤ length bytes.now }
     ensures answers { result ≡ size_at bytes.now }
 {
     usize::from(u16::from_be_bytes([bytes[0], bytes[1]]))
@@ -18,11 +18,11 @@ fn size_at(bytes: &[u8]) -> usize
 /// The first record, and what follows it.
 #[tactic(auto, unfolding(crate::specs::Log::first, crate::specs::Log::rest), using(crate::proofs::Logs::length_first, crate::proofs::Logs::framed_first))]
 pub(crate) fn split_first_record(bytes: &[u8]) -> (&[u8], &[u8])
-    requires inside { 2 + size_at bytes.now ≤ length bytes.now }
+    requires inside { length_size + size_at bytes.now ≤ length bytes.now }
     ensures first { result.0.now ≡ first bytes.now }
     ensures rest { result.1.now ≡ rest bytes.now }
     ensures size { length (first bytes.now) ≡ size_at bytes.now }
-    ensures framed { framed (first bytes.now) ≡ take (2 + size_at bytes.now) bytes.now }
+    ensures framed { framed (first bytes.now) ≡ take (length_size + size_at bytes.now) bytes.now }
 {
     let size = size_at(bytes);
     bytes[LENGTH_SIZE..].split_at(size)

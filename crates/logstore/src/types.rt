@@ -1,7 +1,12 @@
 // The log store and what holds of it.
 ghost use Rattle.logstore.specs.Log.{SoundLog};
 
-use super::extent::Extent;
+/// How far the records of a log reach, and how many they are.
+#[derive(Clone, Copy)]
+pub(crate) struct Extent {
+    pub(crate) used: usize,
+    pub(crate) count: usize,
+}
 
 /// Records end to end in a lent area, in the order put, each after its length.
 #[derive(Drop)]
