@@ -1,8 +1,9 @@
 -- How long texts, records and digest inputs are.
 use Rattle.std.specs.Prelude.{ℕ, ◌+◌}
+use Rattle.statement.specs.Layout.{signed_statement_size}
 
 abbrev pub signed_size : ℕ
-signed_size = 81
+signed_size = signed_statement_size
 
 abbrev pub previous_size : ℕ
 previous_size = 32

@@ -2,7 +2,8 @@
 ghost use Rattle.std.specs.Prelude.{◌≡◌};
 ghost use Rattle.notice.specs.Answer.{number_of_kind, kind_read, statements_of, has_text, answer_length};
 
-use super::limits::{ANSWER_HEAD, PREVIOUS_SIZE, SIGNED_STATEMENT_SIZE};
+use super::limits::{ANSWER_HEAD, PREVIOUS_SIZE};
+use statement::SIGNED_STATEMENT_SIZE;
 
 /// What an answer says of the position or the end that was asked for.
 #[derive(Clone, Copy, PartialEq, Eq, Debug)]

@@ -6,7 +6,6 @@ ghost use Rattle.notice.specs.Input.{digest_input, has_input_room, Determines};
 
 use super::limits::{INPUT_HEAD, PREVIOUS_SIZE, TEXT_LIMIT};
 use super::spans::Span;
-use statement::put;
 
 /// Writes the input to the front of the area and tells its length. A text over its limit, or an area too
 /// short, gives none and leaves the area as it is. The bytes determine the parts.
@@ -24,10 +23,14 @@ pub fn write_input(
     if size > TEXT_LIMIT || area.len() < INPUT_HEAD + size {
         return None;
     }
-    put(area, 0, &[span.lane]);
-    put(area, 1, &span.old.to_be_bytes());
-    put(area, 5, &span.new.to_be_bytes());
-    put(area, 9, previous);
-    put(area, INPUT_HEAD, text);
+    let (lane, rest) = area.split_at_mut(1);
+    let (old, rest) = rest.split_at_mut(4);
+    let (new, rest) = rest.split_at_mut(4);
+    let (digest, rest) = rest.split_at_mut(PREVIOUS_SIZE);
+    lane.copy_from_slice(&[span.lane]);
+    old.copy_from_slice(&span.old.to_be_bytes());
+    new.copy_from_slice(&span.new.to_be_bytes());
+    digest.copy_from_slice(previous);
+    rest[..size].copy_from_slice(text);
     Some(INPUT_HEAD + size)
 }

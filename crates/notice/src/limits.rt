@@ -1,7 +1,6 @@
 // How long texts, records and digest inputs are.
 
-/// A signed statement's bytes.
-pub(crate) const SIGNED_STATEMENT_SIZE: usize = 81;
+use statement::SIGNED_STATEMENT_SIZE;
 
 /// The previous digest's bytes.
 pub const PREVIOUS_SIZE: usize = 32;

@@ -6,9 +6,9 @@ ghost use Rattle.notice.specs.Record.{signed_of, counter_of, old_of, new_of, que
 
 use std::marker::Model;
 
-use super::limits::{PREVIOUS_SIZE, RECORD_HEAD, SIGNED_STATEMENT_SIZE, TEXT_LIMIT};
+use super::limits::{PREVIOUS_SIZE, RECORD_HEAD, TEXT_LIMIT};
 use super::spans::Span;
-use statement::SignedStatement;
+use statement::{Layout, SIGNED_STATEMENT_SIZE, SignedStatement};
 
 // Where a signed statement has its counter, old and new, and a record its text length.
 const COUNTER_AT: usize = 8;
@@ -152,15 +152,9 @@ impl<'a> Record<'a> {
         requires small { at < 256 }
         ensures answers { result ≡ number_at at self.now }
     {
-        let bytes = self.bytes;
-        if at + 4 <= bytes.len() {
-            return u32::from_be_bytes([bytes[at], bytes[at + 1], bytes[at + 2], bytes[at + 3]]);
+        if let Some([first, second, third, fourth, ..]) = self.bytes.get(at..) {
+            return u32::from_be_bytes([*first, *second, *third, *fourth]);
         }
-        u32::from_be_bytes([
-            self.byte_at(at),
-            self.byte_at(at + 1),
-            self.byte_at(at + 2),
-            self.byte_at(at + 3),
-        ])
+        u32::from_be_bytes([at, at + 1, at + 2, at + 3].map(|place| self.byte_at(place)))
     }
 }

@@ -3,8 +3,8 @@ ghost use Rattle.std.specs.Prelude.{◌≡◌, ◌+◌, ◌++◌, length, drop, 
 ghost use Rattle.notice.specs.Limits.{record_head};
 ghost use Rattle.notice.specs.Record.{recorded, has_room, Tells};
 
-use super::limits::{PREVIOUS_SIZE, RECORD_HEAD, SIGNED_STATEMENT_SIZE, TEXT_LIMIT};
-use statement::{SignedStatement, put};
+use super::limits::{PREVIOUS_SIZE, RECORD_HEAD, TEXT_LIMIT};
+use statement::{SIGNED_STATEMENT_SIZE, SignedStatement};
 
 /// Writes the record to the front of the area and tells its length. A text over its limit, or an area too
 /// short, gives none and leaves the area as it is.
@@ -19,17 +19,16 @@ pub fn write_record(
     ensures back { Tells signed.now previous.now text.now (recorded signed.now previous.now text.now) }
 {
     let size = text.len();
-    let head = signed.encode();
+    let bytes: [u8; SIGNED_STATEMENT_SIZE] = (*signed).into();
     if size > TEXT_LIMIT || area.len() < RECORD_HEAD + size {
         return None;
     }
-    put(area, 0, &head);
-    put(area, SIGNED_STATEMENT_SIZE, previous);
-    put(
-        area,
-        SIGNED_STATEMENT_SIZE + PREVIOUS_SIZE,
-        &[size as u8],
-    );
-    put(area, RECORD_HEAD, text);
+    let (statement, rest) = area.split_at_mut(SIGNED_STATEMENT_SIZE);
+    let (digest, rest) = rest.split_at_mut(PREVIOUS_SIZE);
+    let (length, rest) = rest.split_at_mut(1);
+    statement.copy_from_slice(&bytes);
+    digest.copy_from_slice(previous);
+    length.copy_from_slice(&[size as u8]);
+    rest[..size].copy_from_slice(text);
     Some(RECORD_HEAD + size)
 }

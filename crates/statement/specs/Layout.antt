@@ -24,11 +24,19 @@ number_at k bytes =
 abbrev pub number : List ℕ → ℕ
 number bytes = number_at 0 bytes
 
--- identity 8, counter 1, old 4, new 4, matter 32: 49 bytes
+-- identity 8, counter 1, old 4, new 4, matter 32
+abbrev pub statement_size : ℕ
+statement_size = 49
+
+-- the statement, then its tag of 32
+abbrev pub signed_statement_size : ℕ
+signed_statement_size = 81
+
+-- the bytes of a statement, part after part
 unfoldable pub encoded : Statement → List ℕ
 encoded s = s.identity ++ (s.counter ∷ (four s.old ++ (four s.new ++ s.matter)))
 
--- the statement in the first 49 bytes
+-- the statement in the first statement_size bytes
 abbrev pub decoded : List ℕ → Statement
 decoded bytes =
     record {
@@ -39,13 +47,13 @@ decoded bytes =
       matter = take 32 (drop 17 bytes);
     }
 
--- the statement, then its tag: 81 bytes
+-- the bytes of a signed statement
 unfoldable pub encoded_signed : SignedStatement → List ℕ
 encoded_signed s = encoded s.statement ++ s.tag
 
--- the signed statement in the first 81 bytes
+-- the signed statement in the first signed_statement_size bytes
 abbrev pub decoded_signed : List ℕ → SignedStatement
-decoded_signed bytes = record { statement = decoded bytes; tag = take 32 (drop 49 bytes) }
+decoded_signed bytes = record { statement = decoded bytes; tag = take 32 (drop statement_size bytes) }
 
 -- a statement of the right lengths, as every one that a program holds
 pub record Sized (s : Statement) : Type 0 where
@@ -55,3 +63,15 @@ pub record Sized (s : Statement) : Type 0 where
 pub record SizedSigned (s : SignedStatement) : Type 0 where
   pub sized : Sized s.statement
   pub tag_bytes : length s.tag ≡ 32
+
+-- the bytes are the value's, hold it, and are no other value's
+pub record IsEncoding {S : Type 0} (encoded : S → List ℕ) (decoded : List ℕ → S) (Sized : S → Type 0) (s : S) (bytes : List ℕ) : Type 0 where
+  pub answers : bytes ≡ encoded s
+  pub sized : Sized s
+  pub back : decoded bytes ≡ s
+  pub determines : (t : S) → Sized t → encoded t ≡ bytes → t ≡ s
+
+-- the value is the one that the bytes hold, and they are its bytes
+pub record IsDecoding {S : Type 0} (encoded : S → List ℕ) (decoded : List ℕ → S) (bytes : List ℕ) (s : S) : Type 0 where
+  pub answers : s ≡ decoded bytes
+  pub back : encoded s ≡ bytes

@@ -1,7 +1,7 @@
 // A part of a lent area, written or zeroed whole or not at all.
 ghost use Rattle.std.specs.Prelude.{◌≡◌, ℕ, ◌+◌, ◌<◌, ◌≤◌, ◌++◌, length, take, drop, replicate};
 
-// Copies `from` into the area from the place `at` on; where it does not fit the area stays as it is.
+/// Copies `from` into the area from the place `at` on; where it does not fit the area stays as it is.
 pub fn put(area: &mut [u8], at: usize, from: &[u8])
     ensures front { at + length from.now ≤ length area.old → take (at + length from.now) area.new ≡ take at area.old ++ from.now }
     ensures back { (k : ℕ) → at + length from.now ≤ k → drop k area.new ≡ drop k area.old }
@@ -13,7 +13,7 @@ pub fn put(area: &mut [u8], at: usize, from: &[u8])
     }
 }
 
-// Zeroes the bytes from the place `at` on; where so many are not there the area stays as it is.
+/// Zeroes the bytes from the place `at` on; where so many are not there the area stays as it is.
 pub fn clear(area: &mut [u8], at: usize, size: usize)
     ensures front { at + size ≤ length area.old → take (at + size) area.new ≡ take at area.old ++ replicate size 0 }
     ensures back { (k : ℕ) → at + size ≤ k → drop k area.new ≡ drop k area.old }

@@ -1,42 +1,12 @@
-// Two statements are equal where their bytes are.
+// Two statements are equal exactly where each of their fields is.
 ghost use Rattle.std.specs.Prelude.{◌≡◌, ◌↔◌, IsTrue};
-ghost use Rattle.std.specs.Cmp.Rules.{comparing};
-ghost use Rattle.std.proofs.Common.{rules};
-ghost use Rattle.statement.specs.Equality.{statement_eq, signed_statement_eq};
+ghost use Rattle.statement.specs.declared.types.Statement.{Statement};
+ghost use Rattle.statement.specs.declared.types.SignedStatement.{SignedStatement};
 
 use super::types::{SignedStatement, Statement};
 
-impl PartialEq for Statement {
-    ghost eq = { statement_eq };
-
-    ghost laws = { Prim.search (comparing, rules) };
-
-    fn eq(&self, other: &Statement) -> bool
-        ensures value { result ≡ statement_eq self.now other.now }
-        ensures decides { IsTrue result ↔ (self.now ≡ other.now) }
-    {
-        self.encode() == other.encode()
-    }
-}
-
-impl Eq for Statement {
-    ghost laws = { Prim.search (comparing, rules) };
-}
-
-impl PartialEq for SignedStatement {
-    ghost eq = { signed_statement_eq };
-
-    ghost laws = { Prim.search (comparing, rules) depth 12 };
-
-    fn eq(&self, other: &SignedStatement) -> bool
-        ensures value { result ≡ signed_statement_eq self.now other.now }
-        ensures decides { IsTrue result ↔ (self.now ≡ other.now) }
-    {
-        let bytes = self.encode();
-        bytes == other.encode()
-    }
-}
-
-impl Eq for SignedStatement {
-    ghost laws = { Prim.search (comparing, rules) depth 12 };
-}
+/// What `==` computes decides, for any two statements and any two signed statements, whether they are the same.
+pub fn equal_where_every_field_is()
+    ensures statement { (a b : Statement) → IsTrue (⟦<Statement as PartialEq>⟧.eq a b) ↔ (a ≡ b) }
+    ensures signed { (a b : SignedStatement) → IsTrue (⟦<SignedStatement as PartialEq>⟧.eq a b) ↔ (a ≡ b) }
+{}

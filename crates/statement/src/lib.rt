@@ -1,11 +1,13 @@
-// What a dongle signs: statements, signed statements and their bytes.
+//! What a dongle signs: statements, signed statements and their bytes.
 #![tactic(auto)]
 
 mod area;
+mod convert;
 mod equality;
-mod layout;
-mod signed;
+mod front;
 mod types;
 
 pub use area::{clear, put};
-pub use types::{SignedStatement, Statement};
+pub use equality::equal_where_every_field_is;
+pub use front::Layout;
+pub use types::{SIGNED_STATEMENT_SIZE, STATEMENT_SIZE, SignedStatement, Statement};
