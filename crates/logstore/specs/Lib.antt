@@ -1,4 +1,3 @@
 pub mod Examples
 pub mod Log
 pub mod LogStores
-pub mod Places

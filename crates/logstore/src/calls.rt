@@ -1,52 +1,91 @@
 // The calls of the log store.
-ghost use Rattle.std.specs.Prelude.{◌≡◌, ℕ, true, false, [], ◌++◌, length, drop, replicate, is_ok, if◌then◌else◌, Some, None, filter, nat_le};
+ghost use Rattle.std.specs.Prelude.{◌≡◌, ℕ, ◌+◌, ◌≤◌, IfSome, true, false, [], ◌∷◌, ◌++◌, length, drop, replicate, is_ok, if◌then◌else◌, Some, None, filter, nat_le};
 ghost use Rattle.std.specs.List.Sorted.{IsPermutation};
+ghost use Rattle.std.specs.Option.{option_map};
+ghost use Rattle.std.specs.Result.{OnErr};
+ghost use Rattle.notice.specs.Limits.{record_limit};
+ghost use Rattle.notice.specs.Record.{is_record};
 ghost use Rattle.store.specs.declared.fault.StoreFault.TheVariants.{WrongArea};
-ghost use Rattle.store.specs.Meaning.{putting, after_put, covering, covered, stays};
-ghost use Rattle.logstore.specs.Log.{log_space, log_takes};
+ghost use Rattle.store.specs.Meaning.{putting, after_put, covering, covered, any_meets, found, spanned, stays};
+ghost use Rattle.logstore.specs.Log.{log_limit, log_space, log_takes, parse};
 ghost use Rattle.logstore.specs.LogStores.{log_held, log_fits, log_area, log_room, Kept};
 
-use super::steps::{add, has_room, remove, show};
-use super::types::{Log, LogStore};
-use statement::clear;
+use super::edit::{compact, lay};
+use super::records::{LENGTH_SIZE, Records};
+use super::types::{Extent, LogStore};
+use notice::{RECORD_LIMIT, Record, Span};
 use store::{Store, StoreFault};
 
+/// The bytes of the largest area that a log can use.
 const LOG_LIMIT: usize = 65536;
 
-fn space(size: usize) -> usize
-    ensures answers { result ≡ log_space size }
+/// How much of an area of a size a log uses: all, or none of one that is too long.
+fn usable(size: usize) -> Option<usize>
+    ensures answers { result ≡ (if nat_le size log_limit then Some size else None) }
 {
-    if size <= LOG_LIMIT { size } else { 0 }
+    if size <= LOG_LIMIT { Some(size) } else { None }
 }
 
 impl<'a> LogStore<'a> {
-    // Opens a store over the area, which it zeroes. An area that is too long stays as it is and is not used.
+    /// Opens a store over the area, which it zeroes. An area that is too long stays as it is and is not used.
     pub fn open(area: &'a mut [u8]) -> LogStore<'a>
         ensures answers { log_held result ≡ [] }
         ensures room { log_room result ≡ log_space (length area.old) }
         ensures area { log_area result ≡ replicate (log_space (length area.old)) 0 ++ drop (log_space (length area.old)) area.old }
     {
-        let room = space(area.len());
-        clear(area, 0, room);
+        if let Some(room) = usable(area.len()) {
+            area[..room].fill(0);
+        }
         LogStore {
-            log: Log {
-                area,
-                room,
-                used: 0,
-                count: 0,
-            },
+            area,
+            held: Extent { used: 0, count: 0 },
         }
     }
 
-    // A fault where the area is too long, none for a good one.
+    /// A fault where the area is too long, none for a good one.
     pub fn area_fault(&self) -> Option<StoreFault>
-        ensures answers { result ≡ (if nat_le (length (log_area self.now)) 65536 then None else Some WrongArea) }
+        ensures answers { result ≡ (if nat_le (length (log_area self.now)) log_limit then None else Some WrongArea) }
     {
-        if self.log.room == self.log.area.len() {
-            None
-        } else {
-            Some(StoreFault::WrongArea)
+        match usable(self.area.len()) {
+            Some(_) => None,
+            None => Some(StoreFault::WrongArea),
         }
+    }
+
+    /// The records, in the order put.
+    #[tactic(auto, using(crate::proofs::Images::sound_layout))]
+    fn records(&self) -> Records<'_>
+        ensures records { parse result.left result.bytes.now ≡ log_held self.now }
+    {
+        Records {
+            bytes: self.area,
+            left: self.held.count,
+        }
+    }
+
+    /// The record of the queue that spans the position.
+    #[tactic(auto, unfolding(notice::specs::Record::covers))]
+    fn find(&self, queue: u8, position: u32) -> Option<&[u8]>
+        ensures answers { option_map (λ r. r.now) result ≡ found queue position (log_held self.now) }
+        ensures short { IfSome result (λ r. length r.now ≤ record_limit) }
+    {
+        self.records().find(|record| Record::from(*record).span().contains(queue, position))
+    }
+
+    /// Lays a record behind the last.
+    fn append(&mut self, record: &[u8])
+        requires good { is_record «record».now ≡ true }
+        requires free { spanned (log_held self.old) «record».now ≡ false }
+        requires fits { log_fits self.old (length «record».now) ≡ true }
+        ensures becomes { log_held self.new ≡ log_held self.old ++ «record».now ∷ [] }
+        ensures log { Kept self.old self.new }
+    {
+        let Extent { used, count } = self.held;
+        lay(self.area, used, record);
+        self.held = Extent {
+            used: used + (LENGTH_SIZE + record.len()),
+            count: count + 1,
+        };
     }
 }
 
@@ -55,38 +94,61 @@ impl<'a> Store for LogStore<'a> {
 
     ghost fits = { log_fits };
 
-    ghost records = { λ s. s.good };
+    ghost records = { λ s. s.sound.good };
 
-    ghost apart = { λ s. s.apart };
+    ghost apart = { λ s. s.sound.apart };
 
     fn put(&mut self, record: &[u8]) -> Result<(), StoreFault>
         ensures answers { result ≡ putting (log_fits self.old (length «record».now)) (log_held self.old) «record».now }
         ensures becomes { log_held self.new ≡ after_put (log_fits self.old (length «record».now)) (log_held self.old) «record».now }
-        ensures keeps { is_ok result ≡ false → (n : ℕ) → log_fits self.new n ≡ log_fits self.old n }
+        ensures keeps { OnErr result ((n : ℕ) → log_fits self.new n ≡ log_fits self.old n) }
         ensures log { Kept self.old self.new }
-        ensures untouched { is_ok result ≡ false → log_area self.new ≡ log_area self.old }
+        ensures untouched { OnErr result (log_area self.new ≡ log_area self.old) }
     {
-        add(&mut self.log, record)
+        self.admit(record)?;
+        self.append(record);
+        Ok(())
     }
 
     fn takes(&self, size: usize) -> bool
         ensures answers { result ≡ log_fits self.now size }
         ensures log { result ≡ log_takes (log_room self.now) (log_held self.now) size }
     {
-        has_room(&self.log, size)
+        let Some(room) = usable(self.area.len()) else {
+            return false;
+        };
+        let free = room - self.held.used;
+        free >= LENGTH_SIZE && size <= free - LENGTH_SIZE
     }
 
+    #[tactic(auto, unfolding(store::specs::Meaning::meets))]
+    fn is_spanned(&self, span: &Span) -> bool
+        ensures answers { result ≡ any_meets span.now (log_held self.now) }
+    {
+        self.records()
+            .any(|record| Record::from(record).span().meets(span))
+    }
+
+    #[tactic(auto, using(crate::proofs::Images::length_parse))]
     fn count(&self) -> usize
         ensures answers { result ≡ length (log_held self.now) }
     {
-        self.log.count
+        self.held.count
     }
 
+    #[tactic(auto, unfolding(store::specs::Meaning::covering, store::specs::Meaning::covered))]
     fn cover(&self, queue: u8, position: u32, area: &mut [u8]) -> Result<Option<usize>, StoreFault>
         ensures answers { result ≡ covering (log_held self.now) queue position area.old }
         ensures area { area.new ≡ covered (log_held self.now) queue position area.old }
     {
-        show(&self.log, queue, position, area)
+        if area.len() < RECORD_LIMIT {
+            return Err(StoreFault::ShortArea);
+        }
+        let Some(record) = self.find(queue, position) else {
+            return Ok(None);
+        };
+        area[..record.len()].copy_from_slice(record);
+        Ok(Some(record.len()))
     }
 
     fn forget(&mut self, queue: u8, below: u32)
@@ -94,6 +156,6 @@ impl<'a> Store for LogStore<'a> {
         ensures order { log_held self.new ≡ filter (stays queue below) (log_held self.old) }
         ensures log { Kept self.old self.new }
     {
-        remove(&mut self.log, queue, below);
+        self.held = compact(self.area, self.held, queue, below);
     }
 }

@@ -4,11 +4,8 @@
 mod calls;
 mod edit;
 mod examples;
-mod extent;
-mod place;
-mod search;
-mod steps;
+mod records;
 mod types;
 
-pub use examples::smallest_logs;
+pub use examples::smallest_log_is_116_bytes;
 pub use types::LogStore;

@@ -1,60 +1,58 @@
-use Rattle.std.proofs.Common.{◌≡◌, ℕ, ◌+◌, ◌-◌, List, length, sym, subst, arith}
-use Rattle.notice.proofs.Records.{record_short}
-use Rattle.logstore.specs.declared.extent.Extent.{Extent}
+use Rattle.std.proofs.Common.{◌≡◌, ℕ, ◌+◌, ◌-◌, ◌≤◌, List, length, take, drop, sym, ap, ◌∙◌, subst, rules, tests, arith}
+use Rattle.std.proofs.lemmas.List.{take_rest}
+use Rattle.logstore.specs.declared.types.Extent.{Extent}
 use Rattle.store.specs.Meaning.{stays}
-use Rattle.logstore.specs.Log.{Layout}
-use Rattle.logstore.proofs.Logs.{inside}
-use Rattle.logstore.proofs.Compacting.{Compacting, compacting_none, compacting-skips, compacting-keeps, compacting_all, is-good}
+use Rattle.logstore.specs.Log.{length_size, framed, size_at, first}
+use Rattle.logstore.proofs.Compacting.{Compacting, compacting-skips, compacting-keeps, compacting_all, next_inside}
 use Rattle.logstore.proofs.edit.compact.Goals as goal
 use Rattle.logstore.proofs.edit.compact.Goals.{then-is_kept, else-is_kept}
 
-pub loop-left-init : goal.loop-left-init
-loop-left-init c = compacting_none _ c.args.area.now c.args.count c.requires.lies.0 c.requires.lies.1
-
-pub record_at-record-requires : goal.record_at-record-requires
-record_at-record-requires c =
-    let inv = c.loop-left.invariant in
+pub split_first_record-requires : goal.split_first_record-requires
+split_first_record-requires c =
+    let l = c.loop in
     record {
       inside =
-          inside c.loop-left.left c.loop-left.at c.loop-left.area (omega arith) inv.within
-          (subst (Layout c.loop-left.left) (sym inv.same) inv.lies);
+          subst (λ z. length_size + size_at z ≤ length z) (sym (take_rest l.area l.at))
+          (next_inside _ c.args.area.now c.args.held.count l.area l.at l.kept.used l.kept.count _ l.invariant (omega arith));
     }
 
-pub move_down-requires : goal.move_down-requires
-move_down-requires c =
-    let r = c.record_at-record.ensures in
-    let g = is-good _ _ _ _ _ _ _ _ c.loop-left.invariant c.loop-left-test.true c.record_at-record.result.now r.answers r.size r.ends in
-    record { parts = (c.loop-left.invariant.behind, r.ends, omega (arith, record_short c.record_at-record.result.now g)) }
-
-pub loop-left-preserved : goal.loop-left-preserved
-loop-left-preserved c =
-    let r = c.record_at-record.ensures in
-    let x = c.record_at-record.result.now in
-    let l = c.loop-left in
+pub loop-preserved : goal.loop-preserved
+unfolding stays
+loop-preserved c =
+    let l = c.loop in
+    let e = take_rest l.area l.at in
+    let f = c.split_first_record.ensures in
+    let r = c.split_first_record.result.0.now in
+    let is : r ≡ first (drop l.at l.area) = f.first ∙ ap first e in
+    let size : length r ≡ size_at (drop l.at l.area) = ap length f.first ∙ (f.size ∙ ap size_at e) in
+    let bytes : framed r ≡ take (length_size + length r) (drop l.at l.area) =
+    ap framed f.first ∙ (f.framed ∙ (ap (λ z. take (length_size + size_at z) z) e ∙ ap (λ n. take (length_size + n) (drop l.at l.area)) (sym size))) in
+    let kept : c.is_kept.result ≡ stays c.args.queue c.args.below r = search (rules, tests) in
+    let less : c.args.held.count - l.counter - 1 ≡ c.args.held.count - (l.counter + 1) = omega arith in
     let G : List ℕ → Extent → Type 0 =
-    λ area done.
-    Compacting (stays c.args.queue c.args.below) c.args.area.now c.args.count area (l.at + (2 + length x))
-    done.used done.count (l.left - 1) in
+    λ area kept.
+    Compacting (stays c.args.queue c.args.below) c.args.area.now c.args.held.count area (l.at + (length_size + length r))
+    kept.used kept.count (c.args.held.count - (l.counter + 1)) in
     elim c.if-is_kept.branch [
       | then-is_kept w ↦
-          subst (λ area. G area c.if-is_kept.done) (sym w.area-is)
-          (subst (G w.move_down.new.area) (sym w.done-is)
-          (compacting-keeps _ _ _ _ _ _ _ _ l.invariant c.loop-left-test.true x r.answers r.size r.ends
-          w.move_down.new.area (sym w.if-is_kept.ensures.answers) r.bytes (omega arith) w.move_down.ensures.front w.move_down.ensures.back))
+          subst (λ area. G area c.if-is_kept.kept) (sym w.area-is)
+          (subst (G w.copy_within.new.self) (sym w.kept-is)
+          (subst (Compacting (stays c.args.queue c.args.below) c.args.area.now c.args.held.count w.copy_within.new.self (l.at + (length_size + length r)) (l.kept.used + (length_size + length r)) (l.kept.count + 1)) less
+          (compacting-keeps _ _ _ l.area l.at l.kept.used l.kept.count _ l.invariant (omega arith) r is size
+          w.copy_within.new.self ((l.at + (length_size + length r)) - l.at) (sym kept ∙ w.if-is_kept.true) bytes (omega arith) w.copy_within.ensures.after)))
       | else-is_kept w ↦
-          subst (λ area. G area c.if-is_kept.done) (sym w.area-is)
-          (subst (G l.area) (sym w.done-is)
-          (compacting-skips _ _ _ _ _ _ _ _ l.invariant c.loop-left-test.true x r.answers r.size r.ends
-          (sym w.if-is_kept.ensures.answers)))
+          subst (λ area. G area c.if-is_kept.kept) (sym w.area-is)
+          (subst (G l.area) (sym w.kept-is)
+          (subst (Compacting (stays c.args.queue c.args.below) c.args.area.now c.args.held.count l.area (l.at + (length_size + length r)) l.kept.used l.kept.count) less
+          (compacting-skips _ _ _ l.area l.at l.kept.used l.kept.count _ l.invariant (omega arith) r is size (sym kept ∙ w.if-is_kept.false))))
     ]
 
 pub returns : goal.returns
 returns c =
-    let l = c.loop-left in
-    let z : l.left ≡ 0 = omega arith in
+    let l = c.loop in
+    let z : c.args.held.count - l.counter ≡ 0 = omega arith in
     let e =
-    compacting_all _ _ _ _ _ _ _
-    (subst
-    (λ n. Compacting (stays c.args.queue c.args.below) c.args.area.now c.args.count l.area l.at l.done.used l.done.count n)
-    z l.invariant) in
-    record { front = e.0; number = e.1; reach = e.2; back = e.3 }
+    compacting_all (stays c.args.queue c.args.below) c.args.area.now c.args.held.count l.area c.fill.new.self l.at l.kept.used l.kept.count c.args.held.used
+    (subst (Compacting (stays c.args.queue c.args.below) c.args.area.now c.args.held.count l.area l.at l.kept.used l.kept.count) z l.invariant)
+    c.requires.reach (search rules) in
+    record { area = e.0; used = e.1; count = e.2; less = e.3 }
