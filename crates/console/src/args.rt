@@ -1,40 +1,57 @@
 // The arguments of a command.
 use script::bad::{Bad, Stop};
-use script::bytes::read_exactly;
+use script::bytes::{read_bytes, read_exactly};
 use script::number::number;
-use script::words::{count_words, split_word};
+use script::words::{Words, count_words};
 use std::alloc::Global;
 
-// What follows the name of a command, which has to have `n` words after it.
-pub fn arguments(line: &[u8], n: usize) -> Result<&[u8], Bad> {
-    if count_words(line) != n.saturating_add(1) {
-        return Err(Bad::WordCount);
-    }
-    let (_, rest) = split_word(line);
-    Ok(rest)
+/// The first word of a line, which names a command; empty where there is none.
+pub fn name(line: &[u8]) -> &[u8] {
+    Words::new(line).next().unwrap_or(b"")
 }
 
-// A counter or a queue.
-pub fn byte(word: &[u8]) -> Result<u8, Bad> {
-    let n = number(word, 255)?;
-    Ok((n & 0xff) as u8)
+/// The words after the name of a command, read one by one.
+#[derive(Drop)]
+pub struct Arguments<'a> {
+    words: Words<'a>,
+    heap: Global,
 }
 
-// Bytes of a fixed size.
-pub fn array<const N: usize>(word: &[u8], heap: Global) -> Result<[u8; N], Stop> {
-    let bytes = read_exactly(word, N, heap)?;
-    let mut array = [0; N];
-    array.copy_from_slice(bytes.as_slice());
-    Ok(array)
-}
+impl<'a> Arguments<'a> {
+    /// The words of a line, which has to have `count` of them after the first.
+    pub fn new(line: &'a [u8], count: usize, heap: Global) -> Result<Self, Bad> {
+        if count_words(line) != count.saturating_add(1) {
+            return Err(Bad::WordCount);
+        }
+        let mut words = Words::new(line);
+        words.next();
+        Ok(Arguments { words, heap })
+    }
 
-// Which of two words it is; false for the first.
-pub fn choice(word: &[u8], first: &[u8], second: &[u8]) -> Result<bool, Bad> {
-    if word == first {
-        return Ok(false);
+    pub fn word(&mut self) -> Result<&'a [u8], Bad> {
+        self.words.next().ok_or(Bad::WordCount)
     }
-    if word == second {
-        return Ok(true);
+
+    /// A counter or a queue.
+    pub fn byte(&mut self) -> Result<u8, Bad> {
+        let n = self.number(u32::from(u8::MAX))?;
+        u8::try_from(n).map_err(|_| Bad::Range)
     }
-    Err(Bad::Word)
+
+    /// A number that is at most `most`.
+    pub fn number(&mut self, most: u32) -> Result<u32, Bad> {
+        number(self.word()?, most)
+    }
+
+    pub fn bytes(&mut self) -> Result<Vec<u8>, Stop> {
+        read_bytes(self.word()?, self.heap)
+    }
+
+    /// Bytes of a fixed size.
+    pub fn array<const N: usize>(&mut self) -> Result<[u8; N], Stop> {
+        let bytes = read_exactly(self.word()?, N, self.heap)?;
+        let mut array = [0; N];
+        array.copy_from_slice(bytes.as_slice());
+        Ok(array)
+    }
 }

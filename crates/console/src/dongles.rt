@@ -2,31 +2,83 @@
 ghost use Rattle.std.specs.Prelude.{◌≤◌};
 ghost use Rattle.script.specs.Left.{left};
 
-use crate::args::{arguments, array, byte, choice};
-use crate::block::{Block, run_block};
+use crate::args::{Arguments, name};
+use crate::banks::BankKind;
+use crate::block::run_block;
 use crate::page::Page;
 use bank::{Bank, TallyBank, WordBank};
 use dongle::{Dongle, DongleFault, FirstDongle, SecondDongle};
 use script::bad::{Bad, Stop};
-use script::bytes::read_bytes;
+use script::bytes::MOST_BYTES;
 use script::lines::Lines;
-use script::number::number;
-use script::words::split_word;
 use statement::SignedStatement;
 
-pub fn dongle_refused(page: &mut Page, fault: DongleFault) -> Result<(), Stop> {
-    page.refused(fault.number(), fault.finder(), fault.place())?;
-    Ok(())
+/// The makes of dongle that a script may open.
+#[derive(Clone, Copy)]
+pub enum Make {
+    First,
+    Second,
 }
 
-// A signed statement, in two lines.
+impl TryFrom<&[u8]> for Make {
+    type Error = Bad;
+
+    fn try_from(word: &[u8]) -> Result<Self, Bad> {
+        match word {
+            b"first" => Ok(Make::First),
+            b"second" => Ok(Make::Second),
+            _ => Err(Bad::Word),
+        }
+    }
+}
+
+/// The commands of the block over any dongle, apart from `close`.
+#[derive(Clone, Copy)]
+enum DongleCommand {
+    Value,
+    Attest,
+    Status,
+}
+
+impl TryFrom<&[u8]> for DongleCommand {
+    type Error = Bad;
+
+    fn try_from(name: &[u8]) -> Result<Self, Bad> {
+        match name {
+            b"value" => Ok(DongleCommand::Value),
+            b"attest" => Ok(DongleCommand::Attest),
+            b"status" => Ok(DongleCommand::Status),
+            _ => Err(Bad::Command),
+        }
+    }
+}
+
+/// The commands of the block over the second dongle, which also has a list of its own.
+#[derive(Clone, Copy)]
+enum SecondCommand {
+    Recent,
+    Dongle(DongleCommand),
+}
+
+impl TryFrom<&[u8]> for SecondCommand {
+    type Error = Bad;
+
+    fn try_from(name: &[u8]) -> Result<Self, Bad> {
+        match name {
+            b"recent" => Ok(SecondCommand::Recent),
+            _ => Ok(SecondCommand::Dongle(DongleCommand::try_from(name)?)),
+        }
+    }
+}
+
+/// A signed statement, in two lines.
 pub fn say_signed(page: &mut Page, signed: SignedStatement) -> Result<(), Stop> {
-    page.say_bytes("statement ", &signed.statement.encode())?;
-    page.say_bytes("tag ", &signed.tag)?;
+    page.say_bytes("statement", &signed.statement.encode())?;
+    page.say_bytes("tag", &signed.tag)?;
     Ok(())
 }
 
-// What attest or status answered, and the working area after it.
+/// What attest or status answered, and the working area after it.
 fn say_answer(
     page: &mut Page,
     answer: Result<SignedStatement, DongleFault>,
@@ -34,63 +86,36 @@ fn say_answer(
 ) -> Result<(), Stop> {
     match answer {
         Ok(signed) => say_signed(page, signed)?,
-        Err(fault) => dongle_refused(page, fault)?,
+        Err(fault) => page.say(fault)?,
     }
-    page.say_bytes("working ", working)?;
+    page.say_bytes("working", working)?;
     Ok(())
 }
 
 fn value_line<D: Dongle>(dongle: &D, line: &[u8], page: &mut Page) -> Result<(), Stop> {
-    let rest = arguments(line, 1)?;
-    let (word, _) = split_word(rest);
-    let counter = byte(word)?;
-    match dongle.value(counter) {
-        Ok(n) => page.say_number("value ", n as usize)?,
-        Err(fault) => dongle_refused(page, fault)?,
-    }
+    let mut words = Arguments::new(line, 1, page.heap())?;
+    let counter = words.byte()?;
+    page.say_value(dongle.value(counter))?;
     Ok(())
 }
 
 fn attest_line<D: Dongle>(dongle: &mut D, line: &[u8], page: &mut Page) -> Result<(), Stop> {
-    let heap = page.heap();
-    let rest = arguments(line, 4)?;
-    let (counter_word, rest) = split_word(rest);
-    let counter = byte(counter_word)?;
-    let (to_word, rest) = split_word(rest);
-    let to = number(to_word, u32::MAX)?;
-    let (matter_word, rest) = split_word(rest);
-    let matter: [u8; 32] = array(matter_word, heap)?;
-    let (working_word, _) = split_word(rest);
-    let mut working = read_bytes(working_word, heap)?;
+    let mut words = Arguments::new(line, 4, page.heap())?;
+    let counter = words.byte()?;
+    let to = words.number(u32::MAX)?;
+    let matter = words.array()?;
+    let mut working = words.bytes()?;
     let answer = dongle.attest(counter, to, matter, working.as_mut_slice());
     say_answer(page, answer, working.as_slice())
 }
 
 fn status_line<D: Dongle>(dongle: &D, line: &[u8], page: &mut Page) -> Result<(), Stop> {
-    let heap = page.heap();
-    let rest = arguments(line, 3)?;
-    let (counter_word, rest) = split_word(rest);
-    let counter = byte(counter_word)?;
-    let (nonce_word, rest) = split_word(rest);
-    let nonce: [u8; 32] = array(nonce_word, heap)?;
-    let (working_word, _) = split_word(rest);
-    let mut working = read_bytes(working_word, heap)?;
+    let mut words = Arguments::new(line, 3, page.heap())?;
+    let counter = words.byte()?;
+    let nonce = words.array()?;
+    let mut working = words.bytes()?;
     let answer = dongle.status(counter, nonce, working.as_mut_slice());
     say_answer(page, answer, working.as_slice())
-}
-
-fn dongle_line<D: Dongle>(
-    dongle: &mut D,
-    name: &[u8],
-    line: &[u8],
-    page: &mut Page,
-) -> Result<(), Stop> {
-    match name {
-        b"value" => value_line(dongle, line, page),
-        b"attest" => attest_line(dongle, line, page),
-        b"status" => status_line(dongle, line, page),
-        _ => Err(Stop::Line(Bad::Command)),
-    }
 }
 
 fn recent_line<D: Dongle>(
@@ -98,9 +123,8 @@ fn recent_line<D: Dongle>(
     line: &[u8],
     page: &mut Page,
 ) -> Result<(), Stop> {
-    let rest = arguments(line, 1)?;
-    let (word, _) = split_word(rest);
-    let k = number(word, 70000)?;
+    let mut words = Arguments::new(line, 1, page.heap())?;
+    let k = words.number(MOST_BYTES)?;
     match dongle.recent(k as usize) {
         Some(signed) => say_signed(page, signed)?,
         None => page.say("none")?,
@@ -108,35 +132,42 @@ fn recent_line<D: Dongle>(
     Ok(())
 }
 
-#[derive(Drop)]
-struct FirstBlock<B> {
-    dongle: FirstDongle<B>,
-}
-
-impl<B: Bank> Block for FirstBlock<B> {
-    fn run_line(&mut self, name: &[u8], line: &[u8], page: &mut Page) -> Result<(), Stop> {
-        dongle_line(&mut self.dongle, name, line, page)
+fn run_command<D: Dongle>(
+    dongle: &mut D,
+    command: DongleCommand,
+    line: &[u8],
+    page: &mut Page,
+) -> Result<(), Stop> {
+    match command {
+        DongleCommand::Value => value_line(dongle, line, page),
+        DongleCommand::Attest => attest_line(dongle, line, page),
+        DongleCommand::Status => status_line(dongle, line, page),
     }
 }
 
-#[derive(Drop)]
-struct SecondBlock<B> {
-    dongle: SecondDongle<FirstDongle<B>>,
+fn first_line<D: Dongle>(dongle: &mut D, line: &[u8], page: &mut Page) -> Result<(), Stop> {
+    let command = DongleCommand::try_from(name(line))?;
+    run_command(dongle, command, line, page)
 }
 
-impl<B: Bank> Block for SecondBlock<B> {
-    fn run_line(&mut self, name: &[u8], line: &[u8], page: &mut Page) -> Result<(), Stop> {
-        if name == b"recent".as_slice() {
-            return recent_line(&self.dongle, line, page);
-        }
-        dongle_line(&mut self.dongle, name, line, page)
+fn second_line<D: Dongle>(
+    dongle: &mut SecondDongle<D>,
+    line: &[u8],
+    page: &mut Page,
+) -> Result<(), Stop> {
+    match SecondCommand::try_from(name(line))? {
+        SecondCommand::Recent => recent_line(dongle, line, page),
+        SecondCommand::Dongle(command) => run_command(dongle, command, line, page),
     }
 }
 
-pub fn say_opened<D: Dongle>(dongle: &D, page: &mut Page) -> Result<(), Stop> {
-    page.say_bytes("identity ", &dongle.identity())?;
-    page.say_number("limit ", dongle.limit() as usize)?;
-    Ok(())
+/// What the first words of a dongle's line ask for.
+#[derive(Clone, Copy)]
+pub struct Plan {
+    pub make: Make,
+    pub bank: BankKind,
+    pub identity: [u8; 8],
+    pub key: [u8; 32],
 }
 
 fn run_over<B: Bank + Drop>(
@@ -147,58 +178,44 @@ fn run_over<B: Bank + Drop>(
 ) -> Result<(), Stop>
     ensures reads { left lines.new ≤ left lines.old }
 {
-    let dongle = FirstDongle::new(bank, plan.identity, plan.key);
-    say_opened(&dongle, page)?;
-    if plan.second {
-        let mut block = SecondBlock {
-            dongle: SecondDongle::new(dongle),
-        };
-        return run_block(&mut block, lines, page);
+    let mut first = FirstDongle::new(bank, plan.identity, plan.key);
+    page.say_bytes("identity", &first.identity())?;
+    let limit = first.limit();
+    page.say(format_args!("limit {limit}"))?;
+    match plan.make {
+        Make::First => run_block(lines, page, |line, page| first_line(&mut first, line, page)),
+        Make::Second => {
+            let mut second = SecondDongle::new(first);
+            run_block(lines, page, |line, page| second_line(&mut second, line, page))
+        }
     }
-    let mut block = FirstBlock { dongle };
-    run_block(&mut block, lines, page)
-}
-
-// What the first words of a dongle's or a register's line ask for.
-#[derive(Clone, Copy)]
-pub struct Plan {
-    pub second: bool,
-    pub tally: bool,
-    pub identity: [u8; 8],
-    pub key: [u8; 32],
 }
 
 fn run_plan(area: &mut [u8], plan: &Plan, lines: &mut Lines, page: &mut Page) -> Result<(), Stop>
     ensures reads { left lines.new ≤ left lines.old }
 {
-    if plan.tally {
-        return run_over(TallyBank::open(area), plan, lines, page);
+    match plan.bank {
+        BankKind::Word => run_over(WordBank::open(area), plan, lines, page),
+        BankKind::Tally => run_over(TallyBank::open(area), plan, lines, page),
     }
-    run_over(WordBank::open(area), plan, lines, page)
 }
 
 pub fn dongle_command(line: &[u8], lines: &mut Lines, page: &mut Page) -> Result<(), Stop>
     ensures reads { left lines.new ≤ left lines.old }
 {
-    let heap = page.heap();
-    let rest = arguments(line, 5)?;
-    let (which, rest) = split_word(rest);
-    let second = choice(which, b"first", b"second")?;
-    let (kind, rest) = split_word(rest);
-    let tally = choice(kind, b"word", b"tally")?;
-    let (area_word, rest) = split_word(rest);
-    let mut area = read_bytes(area_word, heap)?;
-    let (identity_word, rest) = split_word(rest);
-    let identity = array(identity_word, heap)?;
-    let (key_word, _) = split_word(rest);
-    let key = array(key_word, heap)?;
+    let mut words = Arguments::new(line, 5, page.heap())?;
+    let make = Make::try_from(words.word()?)?;
+    let bank = BankKind::try_from(words.word()?)?;
+    let mut area = words.bytes()?;
+    let identity = words.array()?;
+    let key = words.array()?;
     let plan = Plan {
-        second,
-        tally,
+        make,
+        bank,
         identity,
         key,
     };
     run_plan(area.as_mut_slice(), &plan, lines, page)?;
-    page.say_bytes("area ", area.as_slice())?;
+    page.say_bytes("area", area.as_slice())?;
     Ok(())
 }

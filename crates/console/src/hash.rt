@@ -1,40 +1,36 @@
 // The commands `digest` and `tag`.
-use crate::args::arguments;
+use crate::args::Arguments;
 use crate::page::Page;
 use digest::{DigestFault, digest, tag};
 use script::bad::Stop;
-use script::bytes::read_bytes;
-use script::words::split_word;
+use std::alloc::AllocError;
 
-fn refused(page: &mut Page, fault: DigestFault) -> Result<(), Stop> {
-    page.refused(fault.number(), fault.finder(), fault.place())?;
-    Ok(())
+/// The bytes of a digest or a tag, or the refusal.
+fn say_answer(
+    page: &mut Page,
+    label: &str,
+    answer: Result<[u8; 32], DigestFault>,
+) -> Result<(), AllocError> {
+    match answer {
+        Ok(bytes) => page.say_bytes(label, &bytes),
+        Err(fault) => page.say(fault),
+    }
 }
 
 pub fn digest_command(line: &[u8], page: &mut Page) -> Result<(), Stop> {
-    let rest = arguments(line, 1)?;
-    let (word, _) = split_word(rest);
-    let message = read_bytes(word, page.heap())?;
-    match digest(message.as_slice()) {
-        Ok(bytes) => page.say_bytes("digest ", &bytes)?,
-        Err(fault) => refused(page, fault)?,
-    }
+    let mut words = Arguments::new(line, 1, page.heap())?;
+    let message = words.bytes()?;
+    say_answer(page, "digest", digest(message.as_slice()))?;
     Ok(())
 }
 
 pub fn tag_command(line: &[u8], page: &mut Page) -> Result<(), Stop> {
-    let heap = page.heap();
-    let rest = arguments(line, 3)?;
-    let (key_word, rest) = split_word(rest);
-    let key = read_bytes(key_word, heap)?;
-    let (message_word, rest) = split_word(rest);
-    let message = read_bytes(message_word, heap)?;
-    let (working_word, _) = split_word(rest);
-    let mut working = read_bytes(working_word, heap)?;
-    match tag(key.as_slice(), message.as_slice(), working.as_mut_slice()) {
-        Ok(bytes) => page.say_bytes("tag ", &bytes)?,
-        Err(fault) => refused(page, fault)?,
-    }
-    page.say_bytes("working ", working.as_slice())?;
+    let mut words = Arguments::new(line, 3, page.heap())?;
+    let key = words.bytes()?;
+    let message = words.bytes()?;
+    let mut working = words.bytes()?;
+    let answer = tag(key.as_slice(), message.as_slice(), working.as_mut_slice());
+    say_answer(page, "tag", answer)?;
+    page.say_bytes("working", working.as_slice())?;
     Ok(())
 }

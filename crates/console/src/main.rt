@@ -12,7 +12,6 @@ mod run;
 mod stores;
 
 use crate::page::Page;
-use script::bad::Stop;
 use script::lines::Lines;
 use std::io;
 use std::io::{Read, Write};
@@ -22,9 +21,6 @@ fn main(rt: HostRuntime) -> io::Result<()> {
     let mut script = Vec::new(heap);
     rt.stdin().read_to_end(&mut script)?;
     let mut page = Page::new(heap);
-    let mut lines = Lines::new(script.as_slice());
-    if run::run(&mut lines, &mut page).is_err() {
-        return Err(io::Error::from(io::ErrorKind::OutOfMemory));
-    }
+    run::run(&mut Lines::new(script.as_slice()), &mut page)?;
     rt.stdout().write_all(page.text())
 }

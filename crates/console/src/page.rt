@@ -1,7 +1,8 @@
 // What the program prints: echoed lines, and indented lines about what came back.
-use script::bad::Bad;
-use script::show::{show_bytes, show_number};
+use script::bad::Stop;
+use script::show::show_bytes;
 use std::alloc::{AllocError, Global};
+use std::fmt::Display;
 
 #[derive(Drop)]
 pub struct Page {
@@ -25,62 +26,49 @@ impl Page {
         self.text.as_slice()
     }
 
-    // A line of the script, before it is run.
+    /// A line of the script, byte for byte, before it is run.
     pub fn echo(&mut self, line: &[u8]) -> Result<(), AllocError> {
         self.text.extend_from_slice(b"> ")?;
         self.text.extend_from_slice(line)?;
-        self.end_line()
-    }
-
-    pub fn begin(&mut self, words: &str) -> Result<(), AllocError> {
-        self.text.extend_from_slice(b"  ")?;
-        self.text.extend_from_slice(words.as_bytes())
-    }
-
-    pub fn word(&mut self, words: &str) -> Result<(), AllocError> {
-        self.text.extend_from_slice(words.as_bytes())
-    }
-
-    pub fn number(&mut self, n: usize) -> Result<(), AllocError> {
-        show_number(&mut self.text, n, self.heap)
-    }
-
-    pub fn end_line(&mut self) -> Result<(), AllocError> {
         self.text.extend_from_slice(b"\n")
     }
 
-    pub fn say(&mut self, words: &str) -> Result<(), AllocError> {
-        self.begin(words)?;
-        self.end_line()
+    /// An indented line.
+    pub fn say<D: Display + Drop>(&mut self, words: D) -> Result<(), AllocError> {
+        let line = format!(in self.heap; "  {words}\n")?;
+        self.text.extend_from_slice(line.as_bytes())
     }
 
-    // A line such as `  area BYTES`.
+    /// A line such as `  area BYTES`.
     pub fn say_bytes(&mut self, label: &str, bytes: &[u8]) -> Result<(), AllocError> {
-        self.begin(label)?;
+        let start = format!(in self.heap; "  {label} ")?;
+        self.text.extend_from_slice(start.as_bytes())?;
         show_bytes(&mut self.text, bytes, self.heap)?;
-        self.end_line()
+        self.text.extend_from_slice(b"\n")
     }
 
-    // A line such as `  value N`.
-    pub fn say_number(&mut self, label: &str, n: usize) -> Result<(), AllocError> {
-        self.begin(label)?;
-        self.number(n)?;
-        self.end_line()
+    /// The value of a counter, or the refusal.
+    pub fn say_value<E: Display + Drop>(&mut self, answer: Result<u32, E>) -> Result<(), AllocError> {
+        match answer {
+            Ok(value) => self.say(format_args!("value {value}")),
+            Err(fault) => self.say(fault),
+        }
     }
 
-    pub fn refused(&mut self, number: u32, finder: &str, place: u32) -> Result<(), AllocError> {
-        self.begin("refused ")?;
-        self.number(number as usize)?;
-        self.word(" by ")?;
-        self.word(finder)?;
-        self.word(" at ")?;
-        self.number(place as usize)?;
-        self.end_line()
+    /// Whether an area was right when it was opened.
+    pub fn say_area<E: Display + Drop>(&mut self, fault: Option<E>) -> Result<(), AllocError> {
+        match fault {
+            None => self.say("area ok"),
+            Some(fault) => self.say(fault),
+        }
     }
 
-    pub fn error(&mut self, bad: Bad) -> Result<(), AllocError> {
-        self.begin("error: ")?;
-        self.word(bad.reason())?;
-        self.end_line()
+    /// Why a line was not run, where it is wrong. Only want of memory ends the program.
+    pub fn settle(&mut self, ran: Result<(), Stop>) -> Result<(), AllocError> {
+        match ran {
+            Ok(()) => Ok(()),
+            Err(Stop::Line(bad)) => self.say(format_args!("error: {bad}")),
+            Err(Stop::Memory) => Err(AllocError),
+        }
     }
 }

@@ -2,35 +2,60 @@
 ghost use Rattle.std.specs.Prelude.{◌≤◌};
 ghost use Rattle.script.specs.Left.{left};
 
-use crate::block::settle;
+use crate::args::name;
 use crate::page::Page;
 use crate::{banks, dongles, hash, readers, stores};
 use script::bad::{Bad, Stop};
 use script::lines::Lines;
-use script::words::split_word;
+use std::alloc::AllocError;
 
-// One command, which may read more lines.
-fn command(line: &[u8], lines: &mut Lines, page: &mut Page) -> Result<(), Stop>
-    ensures reads { left lines.new ≤ left lines.old }
-{
-    let (name, _) = split_word(line);
-    match name {
-        b"digest" => hash::digest_command(line, page),
-        b"bank" => banks::bank_command(line, lines, page),
-        b"dongle" => dongles::dongle_command(line, lines, page),
-        b"reader" => readers::reader_command(line, lines, page),
-        b"store" => stores::store_command(line, lines, page),
-        b"tag" => hash::tag_command(line, page),
-        _ => Err(Stop::Line(Bad::Command)),
+/// The commands outside a block.
+#[derive(Clone, Copy)]
+enum Command {
+    Digest,
+    Tag,
+    Bank,
+    Dongle,
+    Store,
+    Reader,
+}
+
+impl TryFrom<&[u8]> for Command {
+    type Error = Bad;
+
+    fn try_from(name: &[u8]) -> Result<Self, Bad> {
+        match name {
+            b"digest" => Ok(Command::Digest),
+            b"tag" => Ok(Command::Tag),
+            b"bank" => Ok(Command::Bank),
+            b"dongle" => Ok(Command::Dongle),
+            b"store" => Ok(Command::Store),
+            b"reader" => Ok(Command::Reader),
+            _ => Err(Bad::Command),
+        }
     }
 }
 
-// Runs every line of a script.
-pub fn run(lines: &mut Lines, page: &mut Page) -> Result<(), Stop> {
-    while let Some(line) = lines.next_command() {
+/// One command, which may read more lines.
+fn run_command(line: &[u8], lines: &mut Lines, page: &mut Page) -> Result<(), Stop>
+    ensures reads { left lines.new ≤ left lines.old }
+{
+    match Command::try_from(name(line))? {
+        Command::Digest => hash::digest_command(line, page),
+        Command::Tag => hash::tag_command(line, page),
+        Command::Bank => banks::bank_command(line, lines, page),
+        Command::Dongle => dongles::dongle_command(line, lines, page),
+        Command::Store => stores::store_command(line, lines, page),
+        Command::Reader => readers::reader_command(line, lines, page),
+    }
+}
+
+/// Runs every line of a script.
+pub fn run(lines: &mut Lines, page: &mut Page) -> Result<(), AllocError> {
+    while let Some(line) = lines.next() {
         page.echo(line)?;
-        let ran = command(line, lines, page);
-        settle(page, ran)?;
+        let ran = run_command(line, lines, page);
+        page.settle(ran)?;
     }
     Ok(())
 }

@@ -2,39 +2,75 @@
 ghost use Rattle.std.specs.Prelude.{◌≤◌};
 ghost use Rattle.script.specs.Left.{left};
 
-use crate::args::{arguments, byte, choice};
-use crate::block::{Block, run_block};
+use crate::args::{Arguments, name};
+use crate::block::run_block;
 use crate::page::Page;
 use logstore::LogStore;
 use script::bad::{Bad, Stop};
-use script::bytes::read_bytes;
+use script::bytes::MOST_BYTES;
 use script::lines::Lines;
-use script::number::number;
-use script::words::split_word;
+use script::words::Words;
 use slotstore::{Row, SlotStore};
-use std::alloc::Global;
+use std::alloc::AllocError;
 use store::{Store, StoreFault};
 
-pub fn store_refused(page: &mut Page, fault: StoreFault) -> Result<(), Stop> {
-    page.refused(fault.number(), fault.finder(), fault.place())?;
-    Ok(())
+/// The stores that a script may open.
+#[derive(Clone, Copy)]
+pub enum StoreKind {
+    Log,
+    Slot,
+}
+
+impl TryFrom<&[u8]> for StoreKind {
+    type Error = Bad;
+
+    fn try_from(word: &[u8]) -> Result<Self, Bad> {
+        match word {
+            b"log" => Ok(StoreKind::Log),
+            b"slot" => Ok(StoreKind::Slot),
+            _ => Err(Bad::Word),
+        }
+    }
+}
+
+/// The commands of the block, apart from `close`.
+#[derive(Clone, Copy)]
+enum StoreCommand {
+    Put,
+    Takes,
+    Cover,
+    Forget,
+    Count,
+}
+
+impl TryFrom<&[u8]> for StoreCommand {
+    type Error = Bad;
+
+    fn try_from(name: &[u8]) -> Result<Self, Bad> {
+        match name {
+            b"put" => Ok(StoreCommand::Put),
+            b"takes" => Ok(StoreCommand::Takes),
+            b"cover" => Ok(StoreCommand::Cover),
+            b"forget" => Ok(StoreCommand::Forget),
+            b"count" => Ok(StoreCommand::Count),
+            _ => Err(Bad::Command),
+        }
+    }
 }
 
 fn put_line<S: Store>(store: &mut S, line: &[u8], page: &mut Page) -> Result<(), Stop> {
-    let rest = arguments(line, 1)?;
-    let (word, _) = split_word(rest);
-    let bytes = read_bytes(word, page.heap())?;
+    let mut words = Arguments::new(line, 1, page.heap())?;
+    let bytes = words.bytes()?;
     match store.put(bytes.as_slice()) {
         Ok(()) => page.say("put")?,
-        Err(fault) => store_refused(page, fault)?,
+        Err(fault) => page.say(fault)?,
     }
     Ok(())
 }
 
 fn takes_line<S: Store>(store: &S, line: &[u8], page: &mut Page) -> Result<(), Stop> {
-    let rest = arguments(line, 1)?;
-    let (word, _) = split_word(rest);
-    let size = number(word, 70000)?;
+    let mut words = Arguments::new(line, 1, page.heap())?;
+    let size = words.number(MOST_BYTES)?;
     page.say(if store.takes(size as usize) {
         "yes"
     } else {
@@ -44,79 +80,63 @@ fn takes_line<S: Store>(store: &S, line: &[u8], page: &mut Page) -> Result<(), S
 }
 
 fn cover_line<S: Store>(store: &S, line: &[u8], page: &mut Page) -> Result<(), Stop> {
-    let rest = arguments(line, 3)?;
-    let (queue_word, rest) = split_word(rest);
-    let queue = byte(queue_word)?;
-    let (position_word, rest) = split_word(rest);
-    let position = number(position_word, u32::MAX)?;
-    let (area_word, _) = split_word(rest);
-    let mut area = read_bytes(area_word, page.heap())?;
+    let mut words = Arguments::new(line, 3, page.heap())?;
+    let queue = words.byte()?;
+    let position = words.number(u32::MAX)?;
+    let mut area = words.bytes()?;
     match store.cover(queue, position, area.as_mut_slice()) {
-        Ok(Some(size)) => page.say_number("record ", size)?,
+        Ok(Some(size)) => page.say(format_args!("record {size}"))?,
         Ok(None) => page.say("none")?,
-        Err(fault) => store_refused(page, fault)?,
+        Err(fault) => page.say(fault)?,
     }
-    page.say_bytes("area ", area.as_slice())?;
+    page.say_bytes("area", area.as_slice())?;
     Ok(())
 }
 
 fn forget_line<S: Store>(store: &mut S, line: &[u8], page: &mut Page) -> Result<(), Stop> {
-    let rest = arguments(line, 2)?;
-    let (queue_word, rest) = split_word(rest);
-    let queue = byte(queue_word)?;
-    let (below_word, _) = split_word(rest);
-    let below = number(below_word, u32::MAX)?;
+    let mut words = Arguments::new(line, 2, page.heap())?;
+    let queue = words.byte()?;
+    let below = words.number(u32::MAX)?;
     store.forget(queue, below);
     page.say("forgot")?;
     Ok(())
 }
 
 fn count_line<S: Store>(store: &S, line: &[u8], page: &mut Page) -> Result<(), Stop> {
-    arguments(line, 0)?;
-    page.say_number("count ", store.count())?;
+    Arguments::new(line, 0, page.heap())?;
+    let count = store.count();
+    page.say(format_args!("count {count}"))?;
     Ok(())
 }
 
-#[derive(Drop)]
-struct StoreBlock<S> {
-    store: S,
-}
-
-impl<S: Store> Block for StoreBlock<S> {
-    fn run_line(&mut self, name: &[u8], line: &[u8], page: &mut Page) -> Result<(), Stop> {
-        match name {
-            b"put" => put_line(&mut self.store, line, page),
-            b"takes" => takes_line(&self.store, line, page),
-            b"cover" => cover_line(&self.store, line, page),
-            b"forget" => forget_line(&mut self.store, line, page),
-            b"count" => count_line(&self.store, line, page),
-            _ => Err(Stop::Line(Bad::Command)),
-        }
+fn store_line<S: Store>(store: &mut S, line: &[u8], page: &mut Page) -> Result<(), Stop> {
+    match StoreCommand::try_from(name(line))? {
+        StoreCommand::Put => put_line(store, line, page),
+        StoreCommand::Takes => takes_line(store, line, page),
+        StoreCommand::Cover => cover_line(store, line, page),
+        StoreCommand::Forget => forget_line(store, line, page),
+        StoreCommand::Count => count_line(store, line, page),
     }
 }
 
 fn run_store<S: Store + Drop>(
-    store: S,
-    wrong: Option<StoreFault>,
+    mut store: S,
+    fault: Option<StoreFault>,
     lines: &mut Lines,
     page: &mut Page,
 ) -> Result<(), Stop>
     ensures reads { left lines.new ≤ left lines.old }
 {
-    match wrong {
-        None => page.say("area ok")?,
-        Some(fault) => store_refused(page, fault)?,
-    }
-    let mut block = StoreBlock { store };
-    run_block(&mut block, lines, page)
+    page.say_area(fault)?;
+    run_block(lines, page, |line, page| store_line(&mut store, line, page))
 }
 
 fn run_log(area: &mut [u8], lines: &mut Lines, page: &mut Page) -> Result<(), Stop>
     ensures reads { left lines.new ≤ left lines.old }
 {
     let store = LogStore::open(area);
-    let wrong = store.area_fault();
-    run_store(store, wrong, lines, page)
+    let fault = store.area_fault();
+    run_store(store, fault, lines, page)
 }
 
 fn run_slots(
@@ -128,41 +148,24 @@ fn run_slots(
     ensures reads { left lines.new ≤ left lines.old }
 {
     let store = SlotStore::open(area, rows);
-    let wrong = store.area_fault();
-    run_store(store, wrong, lines, page)
+    let fault = store.area_fault();
+    run_store(store, fault, lines, page)
 }
 
-// Rows that are all zero.
-pub fn blank_rows(count: u32, heap: Global) -> Result<Vec<Row>, Stop> {
-    let mut rows = Vec::new(heap);
-    for _ in 0..count {
-        rows.push(Row {
-            queue: 0,
-            old: 0,
-            new: 0,
-            length: 0,
-        })?;
-    }
-    Ok(rows)
+fn say_row(page: &mut Page, place: usize, row: Row) -> Result<(), AllocError> {
+    let Row {
+        queue,
+        old,
+        new,
+        length,
+    } = row;
+    page.say(format_args!(
+        "row {place} queue {queue} old {old} new {new} length {length}"
+    ))
 }
 
-fn say_row(page: &mut Page, place: usize, row: Row) -> Result<(), Stop> {
-    page.begin("row ")?;
-    page.number(place)?;
-    page.word(" queue ")?;
-    page.number(row.queue as usize)?;
-    page.word(" old ")?;
-    page.number(row.old as usize)?;
-    page.word(" new ")?;
-    page.number(row.new as usize)?;
-    page.word(" length ")?;
-    page.number(row.length)?;
-    page.end_line()?;
-    Ok(())
-}
-
-// A line for each row that tells of a record.
-pub fn say_rows(page: &mut Page, rows: &[Row]) -> Result<(), Stop> {
+/// A line for each row that tells of a record.
+pub fn say_rows(page: &mut Page, rows: &[Row]) -> Result<(), AllocError> {
     for (place, row) in rows.iter().enumerate() {
         if row.length != 0 {
             say_row(page, place, *row)?;
@@ -174,38 +177,45 @@ pub fn say_rows(page: &mut Page, rows: &[Row]) -> Result<(), Stop> {
 fn log_command(line: &[u8], lines: &mut Lines, page: &mut Page) -> Result<(), Stop>
     ensures reads { left lines.new ≤ left lines.old }
 {
-    let rest = arguments(line, 2)?;
-    let (_, rest) = split_word(rest);
-    let (area_word, _) = split_word(rest);
-    let mut area = read_bytes(area_word, page.heap())?;
+    let mut words = Arguments::new(line, 2, page.heap())?;
+    words.word()?;
+    let mut area = words.bytes()?;
     run_log(area.as_mut_slice(), lines, page)?;
-    page.say_bytes("area ", area.as_slice())?;
+    page.say_bytes("area", area.as_slice())?;
     Ok(())
 }
 
 fn slot_command(line: &[u8], lines: &mut Lines, page: &mut Page) -> Result<(), Stop>
     ensures reads { left lines.new ≤ left lines.old }
 {
-    let heap = page.heap();
-    let rest = arguments(line, 3)?;
-    let (kind, rest) = split_word(rest);
-    choice(kind, b"log", b"slot")?;
-    let (area_word, rest) = split_word(rest);
-    let mut area = read_bytes(area_word, heap)?;
-    let (rows_word, _) = split_word(rest);
-    let mut rows = blank_rows(number(rows_word, 70000)?, heap)?;
+    let mut words = Arguments::new(line, 3, page.heap())?;
+    words.word()?;
+    let mut area = words.bytes()?;
+    let count = words.number(MOST_BYTES)?;
+    let blank = Row {
+        queue: 0,
+        old: 0,
+        new: 0,
+        length: 0,
+    };
+    let mut rows = vec![in page.heap(); blank; count as usize]?;
     run_slots(area.as_mut_slice(), rows.as_mut_slice(), lines, page)?;
-    page.say_bytes("area ", area.as_slice())?;
-    say_rows(page, rows.as_slice())
+    page.say_bytes("area", area.as_slice())?;
+    say_rows(page, rows.as_slice())?;
+    Ok(())
 }
 
 pub fn store_command(line: &[u8], lines: &mut Lines, page: &mut Page) -> Result<(), Stop>
     ensures reads { left lines.new ≤ left lines.old }
 {
-    let (_, rest) = split_word(line);
-    let (kind, _) = split_word(rest);
-    if kind == b"log".as_slice() {
-        return log_command(line, lines, page);
+    let kind = Words::new(line).nth(1).unwrap_or(b"");
+    match StoreKind::try_from(kind) {
+        Ok(StoreKind::Log) => log_command(line, lines, page),
+        Ok(StoreKind::Slot) => slot_command(line, lines, page),
+        // A wrong number of words is found before a word that is no kind.
+        Err(bad) => {
+            Arguments::new(line, 3, page.heap())?;
+            Err(Stop::Line(bad))
+        }
     }
-    slot_command(line, lines, page)
 }

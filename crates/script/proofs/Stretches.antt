@@ -1,9 +1,7 @@
 -- The first run of a byte string.
-use Rattle.std.proofs.Common.{◌≡◌, ℕ, suc, ◌+◌, ◌<◌, true, List, [], ◌∷◌, ◌++◌, length, get_or, drop, sym, refl, ap, ◌∙◌, subst, ⊎_elim, append_assoc, one-add, arith}
-use mathlib.Core.Bool.{beq}
-use Rattle.std.specs.List.{prefix_len}
+use Rattle.std.proofs.Common.{◌≡◌, ℕ, suc, ◌+◌, ◌<◌, List, [], ◌∷◌, ◌++◌, length, get_or, drop, sym, refl, ap, ◌∙◌, subst, ⊎_elim, append_assoc, one-add, arith}
 use Rattle.std.proofs.lemmas.Bool.{eq-eqb, ne_eqb, cases_eq, cond-true, cond-false}
-use Rattle.script.specs.Words.{marks}
+use Rattle.script.specs.Words.{run_len}
 use Rattle.script.specs.declared.show.Before.{Before}
 use Rattle.script.specs.declared.show.Before.TheVariants.{Nothing}
 use Rattle.script.specs.Shown.{Stretch, stretch, stretches, lengthened, shown, shown_from, separator, counted, run_text, next_before}
@@ -19,23 +17,22 @@ anew : (x y n : ℕ) (gs : List Stretch) → (x ≡ y → ⊥) →
 anew x y n gs ne = cond-false _ _ _ (ne_eqb x y ne)
 
 -- a run goes on over a byte that is the same, and ends before another
-leads_on : (x : ℕ) (ys : List ℕ) → prefix_len (marks x true) (x ∷ ys) ≡ suc (prefix_len (marks x true) ys)
+leads_on : (x : ℕ) (ys : List ℕ) → run_len x (x ∷ ys) ≡ suc (run_len x ys)
 leads_on x ys =
-    let e : marks x true x ≡ true = ap (λ b. beq b true) (eq-eqb x x refl) in
-    cond-true _ _ _ e ∙ one-add (prefix_len (marks x true) ys)
+    cond-true _ _ _ (eq-eqb x x refl) ∙ one-add (run_len x ys)
 
-ends_at : (x y : ℕ) (ys : List ℕ) → (y ≡ x → ⊥) → prefix_len (marks x true) (y ∷ ys) ≡ 0
-ends_at x y ys ne = cond-false _ _ _ (ap (λ b. beq b true) (ne_eqb y x ne))
+ends_at : (x y : ℕ) (ys : List ℕ) → (y ≡ x → ⊥) → run_len x (y ∷ ys) ≡ 0
+ends_at x y ys ne = cond-false _ _ _ (ne_eqb y x ne)
 
 -- the first run has the first byte and those equal to it that follow at once; the other runs are those of what is left
 abbrev First : ℕ → List ℕ → Type 0
 First x xs =
     stretches (x ∷ xs)
-    ≡ stretch x (1 + prefix_len (marks x true) xs) ∷ stretches (drop (prefix_len (marks x true) xs) xs)
+    ≡ stretch x (1 + run_len x xs) ∷ stretches (drop (run_len x xs) xs)
 
 first_same : (x : ℕ) (ys : List ℕ) → First x ys → First x (x ∷ ys)
 first_same x ys ih =
-    let n = prefix_len (marks x true) ys in
+    let n = run_len x ys in
     let goal =
     ap (λ k. stretch x (1 + k) ∷ (stretches (drop k (x ∷ ys)))) (leads_on x ys) in
     let more =
@@ -44,7 +41,7 @@ first_same x ys ih =
 
 first_other : (x y : ℕ) (ys : List ℕ) → (x ≡ y → ⊥) → First y ys → First x (y ∷ ys)
 first_other x y ys ne ih =
-    let n = prefix_len (marks y true) ys in
+    let n = run_len y ys in
     let goal =
     ap
     (λ k. stretch x (1 + k) ∷ (stretches (drop k (y ∷ ys))))
@@ -62,7 +59,7 @@ first-stretch x (y ∷ ys) =
 
 -- what is printed of bytes that are left: the first run, and what is printed of the rest
 pub shown_more : (before : Before) (rest : List ℕ) (n : ℕ) → 0 < length rest →
-    n ≡ prefix_len (marks (get_or rest 0 0) true) (drop 1 rest) →
+    n ≡ run_len (get_or rest 0 0) (drop 1 rest) →
     shown_from before (stretches rest)
     ≡ separator before (counted (1 + n))
     ++ (run_text (get_or rest 0 0) (1 + n) ++ shown_from (next_before (1 + n)) (stretches (drop (1 + n) rest)))

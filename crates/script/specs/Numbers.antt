@@ -1,6 +1,6 @@
 -- Decimal numbers.
-use Rattle.std.specs.Prelude.{ℕ, ◌+◌, ◌-◌, ◌*◌, Bool, cond, ◌&&◌, List, length, Ok, Err, fold, Result, ◌==◌, nat_le, nat_lt}
-use Rattle.std.specs.List.{prefix_len}
+use Rattle.std.specs.Prelude.{ℕ, ◌+◌, ◌-◌, ◌*◌, Bool, if◌then◌else◌, ◌&&◌, List, length, Ok, Err, fold, Result, nat_le, nat_lt}
+use Rattle.std.specs.List.{list_all}
 use Rattle.script.specs.declared.bad.Bad.{Bad}
 use Rattle.script.specs.declared.bad.Bad.TheVariants.{Number, Range}
 
@@ -17,8 +17,10 @@ decimal_value word = fold digit_more 0 word
 
 -- a word of one or more digits and nothing else
 abbrev pub all_digits : List ℕ → Bool
-all_digits word = nat_lt 0 (length word) && prefix_len is_digit word == length word
+all_digits word = nat_lt 0 (length word) && list_all is_digit word
 
 unfoldable pub number_in : List ℕ → ℕ → Result ℕ Bad
 number_in word most =
-    cond (all_digits word) (cond (nat_le (decimal_value word) most) (Ok (decimal_value word)) (Err Range)) (Err Number)
+    if all_digits word
+    then (if nat_le (decimal_value word) most then Ok (decimal_value word) else Err Range)
+    else Err Number

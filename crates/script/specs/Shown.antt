@@ -1,5 +1,5 @@
 -- Byte strings as they are printed.
-use Rattle.std.specs.Prelude.{ℕ, ◌+◌, ◌/◌, ◌%◌, Bool, cond, List, [], ◌∷◌, ◌++◌, replicate, decimal, ◌==◌, nat_le, nat_lt}
+use Rattle.std.specs.Prelude.{ℕ, ◌+◌, ◌/◌, ◌%◌, Bool, if◌then◌else◌, List, [], ◌∷◌, ◌++◌, replicate, decimal, ◌==◌, nat_le, nat_lt}
 use Rattle.std.specs.List.{flat_map}
 use Rattle.script.specs.declared.show.Before.{Before}
 use Rattle.script.specs.declared.show.Before.TheVariants.{Nothing, Plain, Run}
@@ -16,7 +16,7 @@ stretch byte times = record { byte = byte; times = times }
 abbrev pub lengthened : ℕ → List Stretch → List Stretch
 lengthened x [] = stretch x 1 ∷ []
 lengthened x (g ∷ gs) =
-    cond (x == g.byte) (stretch x (1 + g.times) ∷ gs) (stretch x 1 ∷ g ∷ gs)
+    if x == g.byte then stretch x (1 + g.times) ∷ gs else stretch x 1 ∷ g ∷ gs
 
 -- the longest runs of a byte string, in their order
 abbrev pub stretches : List ℕ → List Stretch
@@ -25,7 +25,7 @@ stretches (x ∷ xs) = lengthened x (stretches xs)
 
 -- a byte in two small hex digits
 abbrev pub hex_char : ℕ → ℕ
-hex_char d = cond (nat_lt d 10) (48 + d) (87 + d)
+hex_char d = if nat_lt d 10 then 48 + d else 87 + d
 
 abbrev pub hex : ℕ → List ℕ
 hex b = hex_char (b / 16) ∷ hex_char (b % 16) ∷ []
@@ -37,17 +37,17 @@ counted times = nat_le 4 times
 -- a plus sign stands on either side of a counted run, and nowhere else
 abbrev pub separator : Before → Bool → List ℕ
 separator Nothing long = []
-separator Plain long = cond long (43 ∷ []) []
+separator Plain long = if long then 43 ∷ [] else []
 separator Run long = 43 ∷ []
 
 abbrev pub plain : ℕ → ℕ → List ℕ
 plain byte times = flat_map hex (replicate times byte)
 
 abbrev pub run_text : ℕ → ℕ → List ℕ
-run_text byte times = cond (counted times) (hex byte ++ (42 ∷ decimal times)) (plain byte times)
+run_text byte times = if counted times then hex byte ++ (42 ∷ decimal times) else plain byte times
 
 abbrev pub next_before : ℕ → Before
-next_before times = cond (counted times) Run Plain
+next_before times = if counted times then Run else Plain
 
 -- the runs from one on, after what stood before it
 abbrev pub shown_from : Before → List Stretch → List ℕ

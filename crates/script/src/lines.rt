@@ -1,26 +1,24 @@
 // The lines of a script.
-ghost use Rattle.std.specs.Prelude.{◌≡◌, ◌<◌, length, MatchOption};
+ghost use Rattle.std.specs.Prelude.{◌≡◌, ◌<◌, length};
 ghost use Rattle.script.specs.Left.{left};
 ghost use Rattle.script.specs.Words.{first_line, after_line};
 
-use crate::runs::leading_run;
+use crate::runs::bytes_before;
 
-const LINE_FEED: u8 = 10;
-
-// The first line of a text, without its line feed, and what follows.
+/// The first line of a text, without its line feed, and what follows.
 pub fn split_line(text: &[u8]) -> (&[u8], &[u8])
     ensures line { result.0.now ≡ first_line text.now }
     ensures rest { result.1.now ≡ after_line text.now }
     ensures falls { 0 < length text.now → length result.1.now < length text.now }
 {
-    let n = leading_run(text, LINE_FEED, false);
-    if n < text.len() {
-        return (&text[0..n], &text[n + 1..]);
+    let (line, rest) = text.split_at(bytes_before(text, b'\n'));
+    match rest {
+        [_, after @ ..] => (line, after),
+        [] => (line, rest),
     }
-    (&text[0..n], &text[n..])
 }
 
-// What is left to read of a script.
+/// The lines of a script that are neither empty nor a comment.
 #[derive(Drop)]
 pub struct Lines<'a> {
     rest: &'a [u8],
@@ -32,11 +30,21 @@ impl<'a> Lines<'a> {
     {
         Lines { rest: script }
     }
+}
 
-    // The next line that is neither empty nor a comment.
-    pub fn next_command(&mut self) -> Option<&'a [u8]>
-        ensures falls { MatchOption result (left self.new ≡ 0) (λ _. left self.new < left self.old) }
-    {
+impl<'a> Iterator for Lines<'a> {
+    ghost use Rattle.std.specs.Prelude.{◌≡◌, ◌<◌, MatchOption};
+    ghost use Rattle.std.specs.Iterator.{at_most};
+    ghost use Rattle.script.specs.Left.{left};
+
+    type Item = &'a [u8];
+
+    // Each line takes something of what is left, and there is no next one where nothing is left.
+    ghost next_gives = { λ old line new. MatchOption line (left new ≡ 0) (λ _. left new < left old) };
+
+    ghost remaining = { λ lines. at_most (left lines) };
+
+    fn next(&mut self) -> Option<&'a [u8]> {
         while !self.rest.is_empty() {
             let (line, after) = split_line(self.rest);
             self.rest = after;

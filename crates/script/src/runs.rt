@@ -1,16 +1,19 @@
 // How far a row of bytes that are one value, or are none, goes on.
-ghost use Rattle.std.specs.Prelude.{◌≡◌, ℕ, ◌≤◌, Bool, length};
-ghost use Rattle.std.specs.List.{prefix_len};
-ghost use Rattle.script.specs.Words.{marks};
+ghost use Rattle.std.specs.Prelude.{◌≡◌, ℕ, ◌≤◌, length};
+ghost use Rattle.script.specs.Words.{run_len, len_before};
 
-// How many bytes at the front are `mark`, or are not where `same` is false.
-pub fn leading_run(text: &[u8], mark: u8, same: bool) -> usize
-    ensures answers { result ≡ prefix_len (marks mark same) text.now }
+/// How many bytes at the front are `mark`.
+pub fn leading_run(text: &[u8], mark: u8) -> usize
+    ensures answers { result ≡ run_len mark text.now }
     ensures within { result ≤ length text.now }
 {
-    let mut n = 0;
-    while n < text.len() && (text[n] == mark) == same {
-        n += 1;
-    }
-    n
+    text.iter().take_while(|c| **c == mark).count()
+}
+
+/// How many bytes stand before the first `mark`: all of them where there is none.
+pub fn bytes_before(text: &[u8], mark: u8) -> usize
+    ensures answers { result ≡ len_before mark text.now }
+    ensures within { result ≤ length text.now }
+{
+    text.iter().take_while(|c| **c != mark).count()
 }

@@ -5,14 +5,18 @@ ghost use Rattle.script.specs.Shown.{hex_char, hex, counted, separator, plain, r
 use crate::runs::leading_run;
 use std::alloc::{AllocError, Global};
 
-// From here on a run of equal bytes is printed with its length.
+/// From here on a run of equal bytes is printed with its length.
 const LONG_RUN: usize = 4;
 
 fn hex_digit_of(digit: u8) -> u8
     requires { digit < 16 }
     ensures answers { result ≡ hex_char digit }
 {
-    if digit < 10 { 48 + digit } else { 87 + digit }
+    if digit < 10 {
+        b'0' + digit
+    } else {
+        b'a' - 10 + digit
+    }
 }
 
 fn push_hex(out: &mut Vec<u8>, byte: u8) -> Result<(), AllocError>
@@ -21,7 +25,7 @@ fn push_hex(out: &mut Vec<u8>, byte: u8) -> Result<(), AllocError>
     out.extend_from_slice(&[hex_digit_of(byte / 16), hex_digit_of(byte % 16)])
 }
 
-// A number in decimal.
+/// A number in decimal.
 pub fn show_number(out: &mut Vec<u8>, n: usize, heap: Global) -> Result<(), AllocError>
     ensures area { OnOk result (out.new.items ≡ out.old.items ++ decimal n) }
 {
@@ -29,7 +33,7 @@ pub fn show_number(out: &mut Vec<u8>, n: usize, heap: Global) -> Result<(), Allo
     out.extend_from_slice(text.as_bytes())
 }
 
-// Bytes that stand one by one.
+/// Bytes that stand one by one.
 fn push_plain(out: &mut Vec<u8>, byte: u8, times: usize) -> Result<(), AllocError>
     ensures area { OnOk result (out.new.items ≡ out.old.items ++ plain byte times) }
 {
@@ -39,7 +43,7 @@ fn push_plain(out: &mut Vec<u8>, byte: u8, times: usize) -> Result<(), AllocErro
     Ok(())
 }
 
-// What stood before a run: nothing, plain hex or a counted run.
+/// What stood before a run: nothing, plain hex or a counted run.
 #[derive(Clone, Copy)]
 enum Before {
     Nothing,
@@ -50,20 +54,16 @@ enum Before {
 fn push_separator(out: &mut Vec<u8>, before: Before, long: bool) -> Result<(), AllocError>
     ensures area { OnOk result (out.new.items ≡ out.old.items ++ separator before long) }
 {
-    match before {
-        Before::Nothing => {}
-        Before::Plain => {
-            if long {
-                out.push(b'+')?;
-            }
-        }
-        Before::Run => out.push(b'+')?,
+    match (before, long) {
+        (Before::Run, _) | (Before::Plain, true) => out.push(b'+')?,
+        (Before::Nothing, _) | (Before::Plain, false) => {}
     }
     Ok(())
 }
 
 fn push_run(out: &mut Vec<u8>, byte: u8, times: usize, heap: Global) -> Result<Before, AllocError>
-    ensures area { IfOk result (λ b. (b ≡ next_before times) × (out.new.items ≡ out.old.items ++ run_text byte times)) }
+    ensures before { IfOk result (λ b. b ≡ next_before times) }
+    ensures area { OnOk result (out.new.items ≡ out.old.items ++ run_text byte times) }
 {
     if times < LONG_RUN {
         push_plain(out, byte, times)?;
@@ -75,7 +75,7 @@ fn push_run(out: &mut Vec<u8>, byte: u8, times: usize, heap: Global) -> Result<B
     Ok(Before::Run)
 }
 
-// Bytes, the way a script may write them.
+/// Bytes, the way a script may write them.
 pub fn show_bytes(out: &mut Vec<u8>, bytes: &[u8], heap: Global) -> Result<(), AllocError>
     ensures area { OnOk result (out.new.items ≡ out.old.items ++ shown bytes.now) }
 {
@@ -87,7 +87,7 @@ pub fn show_bytes(out: &mut Vec<u8>, bytes: &[u8], heap: Global) -> Result<(), A
     let mut before = Before::Nothing;
     while !rest.is_empty() {
         let byte = rest[0];
-        let times = 1 + leading_run(&rest[1..], byte, true);
+        let times = 1 + leading_run(&rest[1..], byte);
         push_separator(out, before, times >= LONG_RUN)?;
         before = push_run(out, byte, times, heap)?;
         rest = &rest[times..];

@@ -1,67 +1,74 @@
 // Every vector in turn, a line for each, and the count.
-use crate::vector::vector_right;
-use script::bad::Stop;
+use crate::vector::{VectorKind, is_right};
+use script::bad::{Bad, Stop};
 use script::lines::Lines;
-use script::show::show_number;
-use script::words::split_word;
+use script::words::Words;
 use std::alloc::{AllocError, Global};
 
-// How many were right, and how many wrong.
+/// What came of a vector.
 #[derive(Clone, Copy)]
+enum Outcome {
+    Right,
+    Wrong,
+}
+
+/// How many were right, and how many wrong.
+#[derive(Clone, Copy, Default)]
 struct Tally {
     right: usize,
     wrong: usize,
 }
 
 impl Tally {
-    fn count(&mut self, right: bool) {
-        if right {
-            self.right = self.right.saturating_add(1);
-        } else {
-            self.wrong = self.wrong.saturating_add(1);
+    fn count(&mut self, outcome: Outcome) {
+        match outcome {
+            Outcome::Right => self.right = self.right.saturating_add(1),
+            Outcome::Wrong => self.wrong = self.wrong.saturating_add(1),
         }
     }
 }
 
-// A vector that cannot be read counts as wrong.
-fn judged(line: &[u8], heap: Global) -> Result<bool, Stop> {
-    let (_, rest) = split_word(line);
-    let (kind, rest) = split_word(rest);
-    let (_, words) = split_word(rest);
-    match vector_right(kind, words, heap) {
-        Err(Stop::Line(_)) => Ok(false),
-        other => other,
+/// A vector's line is a source, a kind, a name, and then the arguments and the answer.
+fn is_line_right(line: &[u8], heap: Global) -> Result<bool, Stop> {
+    let mut words = Words::new(line);
+    let kind = words.nth(1).ok_or(Bad::WordCount)?;
+    let kind = VectorKind::try_from(kind)?;
+    words.next();
+    is_right(kind, &mut words, heap)
+}
+
+/// A vector that cannot be read counts as wrong.
+fn judged(line: &[u8], heap: Global) -> Result<Outcome, AllocError> {
+    match is_line_right(line, heap) {
+        Ok(true) => Ok(Outcome::Right),
+        Ok(false) | Err(Stop::Line(_)) => Ok(Outcome::Wrong),
+        Err(Stop::Memory) => Err(AllocError),
     }
 }
 
-// A line such as `right published digest abc`.
-fn say(page: &mut Vec<u8>, right: bool, line: &[u8]) -> Result<(), AllocError> {
-    page.extend_from_slice(if right { b"right" } else { b"WRONG" })?;
-    let mut rest = line;
+/// A line such as `right published digest abc`.
+fn say(page: &mut Vec<u8>, outcome: Outcome, line: &[u8]) -> Result<(), AllocError> {
+    page.extend_from_slice(match outcome {
+        Outcome::Right => b"right",
+        Outcome::Wrong => b"WRONG",
+    })?;
+    let mut words = Words::new(line);
     for _ in 0..3 {
-        let (word, after) = split_word(rest);
         page.push(b' ')?;
-        page.extend_from_slice(word)?;
-        rest = after;
+        page.extend_from_slice(words.next().unwrap_or(b""))?;
     }
     page.push(b'\n')?;
     Ok(())
 }
 
-fn say_count(page: &mut Vec<u8>, tally: Tally, heap: Global) -> Result<(), AllocError> {
-    show_number(page, tally.right, heap)?;
-    page.extend_from_slice(b" right, ")?;
-    show_number(page, tally.wrong, heap)?;
-    page.extend_from_slice(b" wrong\n")
-}
-
-pub fn check_all(lines: &mut Lines, page: &mut Vec<u8>, heap: Global) -> Result<(), Stop> {
-    let mut tally = Tally { right: 0, wrong: 0 };
-    while let Some(line) = lines.next_command() {
-        let right = judged(line, heap)?;
-        tally.count(right);
-        say(page, right, line)?;
+pub fn check_all(lines: Lines, page: &mut Vec<u8>, heap: Global) -> Result<(), AllocError> {
+    let mut tally = Tally::default();
+    for line in lines {
+        let outcome = judged(line, heap)?;
+        tally.count(outcome);
+        say(page, outcome, line)?;
     }
-    say_count(page, tally, heap)?;
-    Ok(())
+    let Tally { right, wrong } = tally;
+    let count = format!(in heap; "{right} right, {wrong} wrong\n")?;
+    page.extend_from_slice(count.as_bytes())
 }

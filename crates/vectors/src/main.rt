@@ -13,9 +13,6 @@ fn main(rt: HostRuntime) -> io::Result<()> {
     let mut script = Vec::new(heap);
     rt.stdin().read_to_end(&mut script)?;
     let mut page = Vec::new(heap);
-    let mut lines = Lines::new(script.as_slice());
-    if check::check_all(&mut lines, &mut page, heap).is_err() {
-        return Err(io::Error::from(io::ErrorKind::OutOfMemory));
-    }
+    check::check_all(Lines::new(script.as_slice()), &mut page, heap)?;
     rt.stdout().write_all(page.as_slice())
 }

@@ -4,10 +4,29 @@ ghost use Rattle.std.specs.Prelude.{◌≡◌, true, length, take};
 use digest::{digest, tag};
 use script::bad::{Bad, Stop};
 use script::bytes::read_bytes;
-use script::words::split_word;
+use script::words::Words;
 use std::alloc::Global;
 
-// Whether the expected bytes, all or the first 16 of them, are the answer's.
+/// The calls that vectors are about.
+#[derive(Clone, Copy)]
+pub enum VectorKind {
+    Digest,
+    Tag,
+}
+
+impl TryFrom<&[u8]> for VectorKind {
+    type Error = Bad;
+
+    fn try_from(word: &[u8]) -> Result<Self, Bad> {
+        match word {
+            b"digest" => Ok(VectorKind::Digest),
+            b"tag" => Ok(VectorKind::Tag),
+            _ => Err(Bad::Command),
+        }
+    }
+}
+
+/// Whether the expected bytes, all or the first 16 of them, are the answer's.
 fn agrees(answer: &[u8; 32], expected: &[u8]) -> bool
     ensures front { result ≡ true → expected.now ≡ take (length expected.now) answer.now }
 {
@@ -18,37 +37,26 @@ fn agrees(answer: &[u8; 32], expected: &[u8]) -> bool
     front == expected
 }
 
-// A message and the answer that it should have.
-fn digest_right(words: &[u8], heap: Global) -> Result<bool, Stop> {
-    let (message_word, rest) = split_word(words);
-    let (answer_word, _) = split_word(rest);
-    let message = read_bytes(message_word, heap)?;
-    let expected = read_bytes(answer_word, heap)?;
-    match digest(message.as_slice()) {
-        Ok(answer) => Ok(agrees(&answer, expected.as_slice())),
-        Err(_) => Ok(false),
-    }
+/// The bytes that the next word says.
+fn next_bytes(words: &mut Words, heap: Global) -> Result<Vec<u8>, Stop> {
+    let word = words.next().ok_or(Bad::WordCount)?;
+    read_bytes(word, heap)
 }
 
-// A key, a message and the answer that they should have.
-fn tag_right(words: &[u8], heap: Global) -> Result<bool, Stop> {
-    let (key_word, rest) = split_word(words);
-    let (message_word, rest) = split_word(rest);
-    let (answer_word, _) = split_word(rest);
-    let key = read_bytes(key_word, heap)?;
-    let message = read_bytes(message_word, heap)?;
-    let expected = read_bytes(answer_word, heap)?;
-    let mut working = [0xff; 64];
-    match tag(key.as_slice(), message.as_slice(), &mut working) {
-        Ok(answer) => Ok(agrees(&answer, expected.as_slice())),
-        Err(_) => Ok(false),
-    }
-}
-
-pub fn vector_right(kind: &[u8], words: &[u8], heap: Global) -> Result<bool, Stop> {
-    match kind {
-        b"digest" => digest_right(words, heap),
-        b"tag" => tag_right(words, heap),
-        _ => Err(Stop::Line(Bad::Command)),
-    }
+/// Whether the call of a kind answers as the words say: its arguments, and then its answer.
+pub fn is_right(kind: VectorKind, words: &mut Words, heap: Global) -> Result<bool, Stop> {
+    let answer = match kind {
+        VectorKind::Digest => {
+            let message = next_bytes(words, heap)?;
+            digest(message.as_slice())
+        }
+        VectorKind::Tag => {
+            let key = next_bytes(words, heap)?;
+            let message = next_bytes(words, heap)?;
+            let mut working = [0xff; 64];
+            tag(key.as_slice(), message.as_slice(), &mut working)
+        }
+    };
+    let expected = next_bytes(words, heap)?;
+    Ok(answer.is_ok_and(|answer| agrees(&answer, expected.as_slice())))
 }

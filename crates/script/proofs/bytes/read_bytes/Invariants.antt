@@ -1,8 +1,6 @@
-use Rattle.std.proofs.Common.{◌≤◌, length}
+use Rattle.std.proofs.Common.{◌≤◌, vec_len}
+use Rattle.script.specs.Bytes.{most_bytes}
 use Rattle.script.proofs.bytes.read_bytes.Given as goal
 
-abbrev pub invariant-loop-out : goal.invariant-loop-out
-invariant-loop-out l = length l.rest ≤ length l.initial.rest
-
-abbrev pub decreases-loop-out : goal.decreases-loop-out
-decreases-loop-out l = length l.rest
+abbrev pub invariant-loop-part : goal.invariant-loop-part
+invariant-loop-part l = vec_len l.out ≤ most_bytes

@@ -1,33 +1,18 @@
-use Rattle.std.proofs.Common.{arith}
-use Rattle.std.proofs.lemmas.List.Sums.{prefix_len-drop_yes, prefix_len-drop_no, prefix_len-drop_all}
-use Rattle.script.specs.Words.{marks}
+use Rattle.std.proofs.Common.{ℕ, rules, tests, ◌∙◌}
+use Rattle.std.specs.Prelude.{◌==◌}
+use Rattle.std.proofs.lemmas.Iterator.{YieldsList-from_slice}
+use Rattle.std.proofs.lemmas.Iterator.Consumers.{count_from_yields_List}
+use Rattle.std.proofs.lemmas.Iterator.Search.{YieldsList-from_take_while}
+use Rattle.std.proofs.lemmas.List.Folds.{length-prefix_len}
 use Rattle.script.proofs.runs.leading_run.Goals as goal
 
-pub loop-n-preserved : goal.loop-n-preserved
-loop-n-preserved c =
-    let e =
-    prefix_len-drop_yes
-    (marks c.args.mark c.args.same)
-    c.args.text.now
-    c.loop-n.n
-    0
-    c.loop-n-test.true
-    c.if-text-n.true in
-    (omega arith, omega arith)
-
-pub returns-else-text-n : goal.returns-else-text-n
-returns-else-text-n c =
-    let e =
-    prefix_len-drop_no
-    (marks c.args.mark c.args.same)
-    c.args.text.now
-    c.loop-n.n
-    0
-    c.loop-n-test.true
-    c.if-text-n.false in
-    record { answers = omega arith; within = omega arith }
-
-pub returns-after-loop-n : goal.returns-after-loop-n
-returns-after-loop-n c =
-    let e = prefix_len-drop_all (marks c.args.mark c.args.same) c.args.text.now c.loop-n.n c.loop-n-test.false in
-    record { answers = omega arith; within = omega arith }
+pub returns-clause-answers : goal.returns-clause-answers
+returns-clause-answers c =
+    let text = c.args.text.now in
+    let same = λ (x : ℕ). x == c.args.mark in
+    count_from_yields_List
+    c.take_while.result
+    _
+    c.count.ensures.ran
+    (YieldsList-from_take_while _ same (YieldsList-from_slice text cc) c.take_while.ensures.closure c.take_while.ensures.done (λ x b q k. search (rules, tests)))
+    ∙ length-prefix_len same text

@@ -21,8 +21,6 @@ returns c =
     c.in_ok-push.ensures.items
     refl in
     record {
-      area = (
-        sym (cond-true _ _ _ long),
-        c.in_ok-show_number.ensures.area ∙ text ∙ ap (λ bytes. before ++ bytes) (sym (cond-true _ _ _ long)),
-      );
+      before = sym (cond-true _ _ _ long);
+      area = c.in_ok-show_number.ensures.area ∙ text ∙ ap (λ bytes. before ++ bytes) (sym (cond-true _ _ _ long));
     }

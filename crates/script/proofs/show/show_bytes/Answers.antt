@@ -1,8 +1,7 @@
-use Rattle.std.proofs.Common.{◌≡◌, ◌+◌, ◌-◌, ◌<◌, true, ◌++◌, length, get_or, take, drop, vec_items, sym, ap, ◌∙◌, append-nil, arith}
-use Rattle.std.specs.List.{prefix_len}
+use Rattle.std.proofs.Common.{◌≡◌, ◌+◌, ◌-◌, ◌<◌, ◌++◌, length, get_or, take, drop, vec_items, sym, ap, ◌∙◌, append-nil, arith}
 use Rattle.std.proofs.lemmas.List.{take_rest, length-take, length-drop, nil_from_length}
 use Rattle.std.proofs.lemmas.Bool.{eqb-true, eqb-false}
-use Rattle.script.specs.Words.{marks}
+use Rattle.script.specs.Words.{run_len}
 use Rattle.script.specs.Shown.{stretches, shown_from, separator, counted, run_text, next_before}
 use Rattle.script.proofs.Stretches.{shown_more, laid, shown_some}
 use Rattle.script.proofs.show.show_bytes.Goals as goal
@@ -14,8 +13,8 @@ loop-rest-preserved c =
     let byte = get_or rest 0 0 in
     let some : 0 < length rest =
     let f = eqb-false (length rest) 0 (sym c.loop-rest-test.ensures) in omega arith in
-    let run : n ≡ prefix_len (marks byte true) (drop 1 rest) =
-    c.leading_run-times.ensures.answers ∙ ap (prefix_len (marks byte true)) (take_rest rest 1) in
+    let run : n ≡ run_len byte (drop 1 rest) =
+    c.leading_run-times.ensures.answers ∙ ap (run_len byte) (take_rest rest 1) in
     let after : take (length rest - (1 + n)) (drop (1 + n) rest) ≡ drop (1 + n) rest = take_rest rest (1 + n) in
     let text =
     laid
@@ -27,12 +26,12 @@ loop-rest-preserved c =
     (shown_from (next_before (1 + n)) (stretches (drop (1 + n) rest)))
     (shown_from c.loop-rest.before (stretches rest))
     c.in_ok-push_separator.ensures.area
-    c.in_ok-before.ensures.area.1
+    c.in_ok-before.ensures.area
     (shown_more c.loop-rest.before rest n some run) in
     let same :
     shown_from c.in_ok-before.before (stretches (take (length rest - (1 + n)) (drop (1 + n) rest)))
     ≡ shown_from (next_before (1 + n)) (stretches (drop (1 + n) rest)) =
-    ap (λ b. shown_from b (stretches (take (length rest - (1 + n)) (drop (1 + n) rest)))) c.in_ok-before.ensures.area.0
+    ap (λ b. shown_from b (stretches (take (length rest - (1 + n)) (drop (1 + n) rest)))) c.in_ok-before.ensures.before
     ∙ ap (λ bytes. shown_from (next_before (1 + n)) (stretches bytes)) after in (
       simp (length-take, length-drop) (omega arith),
       ap (λ bytes. vec_items c.push_run.new.out ++ bytes) same ∙ text ∙ c.loop-rest.invariant.1,

@@ -1,5 +1,5 @@
 use Rattle.std.proofs.Common.{◌≤◌, length}
-use Rattle.script.proofs.lines.Lines.next_command.Given as goal
+use Rattle.script.proofs.lines.LinesIterator.next.Given as goal
 
 abbrev pub invariant-loop-line : goal.invariant-loop-line
 invariant-loop-line l = length l.self.rest.now ≤ length l.initial.self.rest.now
