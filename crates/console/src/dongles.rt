@@ -11,7 +11,7 @@ use dongle::{Dongle, DongleFault, FirstDongle, SecondDongle};
 use script::bad::{Bad, Stop};
 use script::bytes::MOST_BYTES;
 use script::lines::Lines;
-use statement::SignedStatement;
+use statement::{STATEMENT_SIZE, SignedStatement};
 
 /// The makes of dongle that a script may open.
 #[derive(Clone, Copy)]
@@ -73,7 +73,8 @@ impl TryFrom<&[u8]> for SecondCommand {
 
 /// A signed statement, in two lines.
 pub fn say_signed(page: &mut Page, signed: SignedStatement) -> Result<(), Stop> {
-    page.say_bytes("statement", &signed.statement.encode())?;
+    let bytes: [u8; STATEMENT_SIZE] = signed.statement.into();
+    page.say_bytes("statement", &bytes)?;
     page.say_bytes("tag", &signed.tag)?;
     Ok(())
 }

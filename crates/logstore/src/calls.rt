@@ -14,7 +14,7 @@ use super::edit::{compact, lay};
 use super::records::{LENGTH_SIZE, Records};
 use super::types::{Extent, LogStore};
 use notice::{RECORD_LIMIT, Record, Span};
-use store::{Store, StoreFault};
+use store::{Store, StoreFault, admit};
 
 /// The bytes of the largest area that a log can use.
 const LOG_LIMIT: usize = 65536;
@@ -72,6 +72,15 @@ impl<'a> LogStore<'a> {
         self.records().find(|record| Record::from(*record).span().contains(queue, position))
     }
 
+    /// Whether a record of the span's lane shares a position with the span.
+    #[tactic(auto, unfolding(store::specs::Meaning::meets))]
+    fn is_spanned(&self, span: &Span) -> bool
+        ensures answers { result ≡ any_meets span.now (log_held self.now) }
+    {
+        self.records()
+            .any(|record| Record::from(record).span().meets(span))
+    }
+
     /// Lays a record behind the last.
     fn append(&mut self, record: &[u8])
         requires good { is_record «record».now ≡ true }
@@ -105,7 +114,12 @@ impl<'a> Store for LogStore<'a> {
         ensures log { Kept self.old self.new }
         ensures untouched { OnErr result (log_area self.new ≡ log_area self.old) }
     {
-        self.admit(record)?;
+        let parsed = Record::from(record);
+        admit(
+            &parsed,
+            self.is_spanned(&parsed.span()),
+            self.takes(record.len()),
+        )?;
         self.append(record);
         Ok(())
     }
@@ -119,14 +133,6 @@ impl<'a> Store for LogStore<'a> {
         };
         let free = room - self.held.used;
         free >= LENGTH_SIZE && size <= free - LENGTH_SIZE
-    }
-
-    #[tactic(auto, unfolding(store::specs::Meaning::meets))]
-    fn is_spanned(&self, span: &Span) -> bool
-        ensures answers { result ≡ any_meets span.now (log_held self.now) }
-    {
-        self.records()
-            .any(|record| Record::from(record).span().meets(span))
     }
 
     #[tactic(auto, using(crate::proofs::Images::length_parse))]

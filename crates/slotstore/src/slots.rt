@@ -5,8 +5,8 @@ ghost use Rattle.slotstore.specs.Slots.{SoundSlots, slot_space};
 use super::parts::{SLOT_SIZE, fill_next, is_slot_area, move_last};
 use super::row::Row;
 use super::search::{first_below, first_covering, is_spanned};
-use notice::{RECORD_LIMIT, Span};
-use store::{Store, StoreFault};
+use notice::{RECORD_LIMIT, Record, Span};
+use store::{Store, StoreFault, admit};
 
 /// Records in slots of equal size, those in use first, each told by its row. Both the slots and the rows are lent.
 // Rows lie beside the slots, in a lent slice of structs and not in the slots' bytes: their lender reads them as rows.
@@ -24,7 +24,7 @@ impl<'a> SlotStore<'a> {
     ghost use Rattle.notice.specs.Limits.{record_limit};
     ghost use Rattle.notice.specs.Record.{is_record};
     ghost use Rattle.store.specs.declared.fault.StoreFault.TheVariants.{WrongArea};
-    ghost use Rattle.store.specs.Meaning.{spanned, found, stays};
+    ghost use Rattle.store.specs.Meaning.{any_meets, spanned, found, stays};
     ghost use Rattle.slotstore.specs.Rows.{free_row};
     ghost use Rattle.slotstore.specs.Slots.{slot_size, is_slot_area};
     ghost use Rattle.slotstore.specs.SlotStores.{slot_held, slot_fits, slot_area, slot_rows, slot_count, Kept};
@@ -84,6 +84,14 @@ impl<'a> SlotStore<'a> {
         Some(self.record(index))
     }
 
+    // Whether a record of the span's lane shares a position with the span.
+    #[tactic(auto, using(crate::proofs::Stores::met_by_row))]
+    fn is_spanned(&self, span: &Span) -> bool
+        ensures answers { result ≡ any_meets span.now (slot_held self.now) }
+    {
+        is_spanned(self.rows, self.used, span)
+    }
+
     // Puts a record into the next slot.
     fn append(&mut self, bytes: &[u8])
         requires good { is_record bytes.now ≡ true }
@@ -119,7 +127,7 @@ impl<'a> Store for SlotStore<'a> {
     ghost use Rattle.std.specs.Prelude.{◌≡◌, ℕ, filter, nat_lt};
     ghost use Rattle.std.specs.List.Sorted.{IsPermutation};
     ghost use Rattle.std.specs.Result.{OnErr};
-    ghost use Rattle.store.specs.Meaning.{any_meets, putting, after_put, covering, covered, stays};
+    ghost use Rattle.store.specs.Meaning.{putting, after_put, covering, covered, stays};
     ghost use Rattle.slotstore.specs.Slots.{swept};
     ghost use Rattle.slotstore.specs.SlotStores.{slot_held, slot_fits, slot_area, slot_rows, slot_count, Kept};
 
@@ -139,7 +147,12 @@ impl<'a> Store for SlotStore<'a> {
         ensures area { OnErr result (slot_area self.new ≡ slot_area self.old) }
         ensures rows { OnErr result (slot_rows self.new ≡ slot_rows self.old) }
     {
-        self.admit(record)?;
+        let parsed = Record::from(record);
+        admit(
+            &parsed,
+            self.is_spanned(&parsed.span()),
+            self.takes(record.len()),
+        )?;
         self.append(record);
         Ok(())
     }
@@ -150,13 +163,6 @@ impl<'a> Store for SlotStore<'a> {
         ensures slots { result ≡ nat_lt (length (slot_held self.now)) (slot_count self.now) }
     {
         self.has_room()
-    }
-
-    #[tactic(auto, using(crate::proofs::Stores::met_by_row))]
-    fn is_spanned(&self, span: &Span) -> bool
-        ensures answers { result ≡ any_meets span.now (slot_held self.now) }
-    {
-        is_spanned(self.rows, self.used, span)
     }
 
     #[tactic(auto, using(crate::proofs::Images::length_in_slots))]

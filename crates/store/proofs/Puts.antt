@@ -1,10 +1,18 @@
 -- What put answers, test by test, and what its answer tells.
-use Rattle.std.proofs.Common.{◌≡◌, ℕ, Bool, true, false, List, [], ◌∷◌, ◌++◌, is_ok, Ok, Err, ap, ◌∙◌, ⊎_elim, arith}
+use Rattle.std.proofs.Common.{◌≡◌, ℕ, Bool, true, false, List, [], ◌∷◌, ◌++◌, is_ok, Ok, Err, refl, ap, ◌∙◌, ⊎_elim, arith}
 use Rattle.std.proofs.lemmas.Bool.{cases_Bool, cond-true, cond-false}
-use Rattle.notice.specs.Record.{counter_of, is_record}
+use Rattle.notice.specs.declared.spans.Span.{Span}
+use Rattle.notice.specs.Record.{counter_of, is_record, span_of}
 use Rattle.store.specs.declared.fault.StoreFault.{StoreFault}
 use Rattle.store.specs.declared.fault.StoreFault.TheVariants.{BadRecord, AlreadySpanned, DoesNotFit}
-use Rattle.store.specs.Meaning.{Bytes, spanned, putting, after_put}
+use Rattle.store.specs.Meaning.{Bytes, any_meets, spanned, admitting, putting, after_put}
+
+-- what admit answers, of what a store says of the record, is what put answers
+pub admitting-putting :
+    (fits : Bool) (held : List Bytes) (r : Bytes) {x : Bytes} {s : Span} {b f : Bool} → x ≡ r → s ≡ span_of x → b ≡ any_meets s held → f ≡ fits →
+    admitting b f x ≡ putting fits held r
+unfolding putting spanned
+admitting-putting fits held r e g h k = rw (h, k, g, e) refl
 
 module _ (fits : Bool) (held : List Bytes) (r : Bytes) where
   pub putting-bad : is_record r ≡ false → putting fits held r ≡ Err BadRecord

@@ -36,14 +36,19 @@ any_meets span rs = list_any (meets span) rs
 unfoldable pub spanned : List Bytes → Bytes → Bool
 spanned held r = any_meets (span_of r) held
 
--- what put answers, from whether the record fits, what is held, and the record
-unfoldable pub putting : Bool → List Bytes → Bytes → Result (Unit {0}) StoreFault
-putting fits held r =
+-- whether a record is taken, from whether a position that it spans is spanned already and whether it fits: the refusals
+-- of put in their order
+abbrev pub admitting : Bool → Bool → Bytes → Result (Unit {0}) StoreFault
+admitting is_spanned fits r =
     if is_record r
-    then (if spanned held r
+    then (if is_spanned
     then Err (AlreadySpanned (counter_of r))
     else (if fits then Ok tt else Err (DoesNotFit (counter_of r))))
     else Err BadRecord
+
+-- what put answers, from whether the record fits, what is held, and the record
+unfoldable pub putting : Bool → List Bytes → Bytes → Result (Unit {0}) StoreFault
+putting fits held r = admitting (spanned held r) fits r
 
 -- a record is held after those that were there
 unfoldable pub after_put : Bool → List Bytes → Bytes → List Bytes

@@ -2,10 +2,9 @@
 ghost use Rattle.std.specs.Prelude.{◌≡◌, ℕ, Bool, List, length, filter};
 ghost use Rattle.std.specs.List.Sorted.{IsPermutation};
 ghost use Rattle.std.specs.Result.{OnErr};
-ghost use Rattle.store.specs.Meaning.{Bytes, Records, Apart, any_meets, putting, after_put, covering, covered, stays};
+ghost use Rattle.store.specs.Meaning.{Bytes, Records, Apart, putting, after_put, covering, covered, stays};
 
 use super::fault::StoreFault;
-use notice::{Record, Span};
 
 /// A set of records, no two of one queue sharing a position, in memory of any kind.
 pub trait Store {
@@ -41,32 +40,4 @@ pub trait Store {
     /// Removes the records of the queue whose new is below a number.
     fn forget(&mut self, queue: u8, below: u32)
         ensures becomes { IsPermutation (filter (stays queue below) (held self.old)) (held self.new) };
-}
-
-/// A store that can search its records for a span. With that it has the tests of `put`.
-pub trait SpanSearch: Store {
-    /// Tells whether a record of the span's lane shares a position with the span.
-    fn is_spanned(&self, span: &Span) -> bool
-        ensures answers { result ≡ any_meets span.now (Self.held self.now) };
-
-    /// The tests of `put`, in their order: the bytes are a record of the high counter of a queue, none of its
-    /// positions is spanned, and it fits. Nothing is added.
-    #[tactic(auto, unfolding(crate::specs::Meaning::putting, crate::specs::Meaning::spanned))]
-    fn admit(&self, record: &[u8]) -> Result<(), StoreFault>
-        ensures answers { result ≡ putting (Self.fits self.now (length «record».now)) (Self.held self.now) «record».now }
-    {
-        let size = record.len();
-        let record = Record::from(record);
-        if !record.is_valid() {
-            return Err(StoreFault::BadRecord);
-        }
-        let counter = record.counter();
-        if self.is_spanned(&record.span()) {
-            return Err(StoreFault::AlreadySpanned(counter));
-        }
-        if !self.takes(size) {
-            return Err(StoreFault::DoesNotFit(counter));
-        }
-        Ok(())
-    }
 }

@@ -48,7 +48,7 @@ fn cover<S: Store>(rt: &HostRuntime, store: &S, queue: u8, position: u32) -> io:
     let mut area = [0; 314];
     match store.cover(queue, position, &mut area) {
         Ok(Some(size)) => {
-            let new = notice::new(&area);
+            let new = notice::Record::from(area.as_slice()).new();
             println!(rt; "cover {queue} {position}: {size} bytes, new {new}")
         }
         Ok(None) => println!(rt; "cover {queue} {position}: none"),

@@ -3,7 +3,7 @@ use Rattle.std.proofs.lemmas.Iterator.Consumers.{YieldsList-from_first}
 use Rattle.std.proofs.lemmas.Iterator.Search.{any_from_yields_List}
 use Rattle.store.specs.Meaning.{meets}
 use Rattle.logstore.specs.Log.{parse}
-use Rattle.logstore.proofs.calls.LogStoreStore.is_spanned.Goals as goal
+use Rattle.logstore.proofs.types.LogStore.is_spanned.Goals as goal
 
 pub returns : goal.returns
 unfolding meets
