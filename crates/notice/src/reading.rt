@@ -73,7 +73,6 @@ impl<'a> Record<'a> {
     }
 
     /// The counter's number before the record was signed.
-    #[tactic(auto, unfolding(crate::specs::Record::old_of))]
     pub fn old(&self) -> u32
         ensures answers { result ≡ old_of self.now }
     {
@@ -81,7 +80,6 @@ impl<'a> Record<'a> {
     }
 
     /// The counter's number from then on.
-    #[tactic(auto, unfolding(crate::specs::Record::new_of))]
     pub fn new(&self) -> u32
         ensures answers { result ≡ new_of self.now }
     {
@@ -107,6 +105,7 @@ impl<'a> Record<'a> {
         if self.bytes.len() < SIZE_AT {
             return None;
         }
+        // Copied, not `first_chunk`: that the chunk is these bytes of the whole got no proof.
         let mut digest = [0; PREVIOUS_SIZE];
         digest.copy_from_slice(&self.bytes[SIGNED_STATEMENT_SIZE..SIZE_AT]);
         Some(digest)
@@ -125,6 +124,7 @@ impl<'a> Record<'a> {
     pub fn text(&self) -> &'a [u8]
         ensures answers { result.now ≡ text_of self.now }
     {
+        // Not `get(RECORD_HEAD..)` with none as empty: that nothing lies past the end got no proof there.
         let from = self.bytes.len().min(RECORD_HEAD);
         &self.bytes[from..]
     }

@@ -33,7 +33,7 @@ impl StoreFault {
         }
     }
 
-    /// The counter of the record, or 0.
+    /// The counter of the record, 0 where none is meant: what is printed of a fault always names a place.
     pub fn place(&self) -> u32
         ensures answers { result ≡ place_of self.now }
     {
