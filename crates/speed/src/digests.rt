@@ -3,20 +3,24 @@ ghost use Rattle.std.specs.Prelude.{◌≡◌, length};
 ghost use Rattle.speed.specs.Digests.{code, written};
 ghost use Rattle.digest.specs.Answers.{digesting};
 
-use digest::digest;
+use digest::{DIGEST_SIZE, digest};
 
-// The digest goes to the front of `out`, which has 32 bytes or more; 0, or the refusal's number, or 255 where `out` is short.
+/// What a call answers where the area for its answer is too short.
+const SHORT: u32 = 255;
+
+/// The digest goes to the front of `out`, which has as many bytes or more; 0, or the refusal's number, or 255 where
+/// `out` is short: a number, since an enum does not cross to C.
 #[unsafe(no_mangle)]
 pub extern "C" fn speed_digest(message: &[u8], out: &mut [u8]) -> u32
     ensures answers { result ≡ code (digesting message.now) (length out.old) }
     ensures area { out.new ≡ written (digesting message.now) out.old }
 {
-    if out.len() < 32 {
-        return 255;
+    if out.len() < DIGEST_SIZE {
+        return SHORT;
     }
     match digest(message) {
         Ok(bytes) => {
-            out[0..32].copy_from_slice(&bytes);
+            out[0..DIGEST_SIZE].copy_from_slice(&bytes);
             0
         }
         Err(fault) => fault.number(),

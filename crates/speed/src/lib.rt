@@ -1,4 +1,5 @@
-// Entry points in C's form, on numbers and byte areas, for the benchmark alone.
+// Entry points in C's form, on numbers and byte areas, for the benchmark alone. What C has no type for, as a refusal, crosses
+// as a number.
 #![tactic(auto)]
 
 mod banks;

@@ -5,7 +5,7 @@ ghost use Rattle.digest.specs.Wiped.{wiped};
 use digest::wipe;
 use reader::{Asked, Reader};
 
-// Draws for a position of queue 0 and checks an answer; 0, or the refusal's number.
+/// Draws for a position of queue 0 and checks an answer; 0, or the refusal's number.
 #[unsafe(no_mangle)]
 pub extern "C" fn speed_check(position: u32, answer: &[u8], working: &mut [u8]) -> u32
     ensures working { working.new ≡ wiped working.old }
