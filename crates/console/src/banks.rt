@@ -86,12 +86,7 @@ fn run_bank<B: Bank + Drop>(
     run_block(lines, page, |line, page| bank_line(&mut bank, line, page))
 }
 
-fn run_kind(
-    kind: BankKind,
-    area: &mut [u8],
-    lines: &mut Lines,
-    page: &mut Page,
-) -> Result<(), Stop>
+fn run_kind(kind: BankKind, area: &mut [u8], lines: &mut Lines, page: &mut Page) -> Result<(), Stop>
     ensures reads { left lines.new ≤ left lines.old }
 {
     match kind {

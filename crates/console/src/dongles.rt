@@ -187,7 +187,11 @@ fn run_over<B: Bank + Drop>(
         Make::First => run_block(lines, page, |line, page| first_line(&mut first, line, page)),
         Make::Second => {
             let mut second = SecondDongle::new(first);
-            run_block(lines, page, |line, page| second_line(&mut second, line, page))
+            run_block(
+                lines,
+                page,
+                |line, page| second_line(&mut second, line, page),
+            )
         }
     }
 }

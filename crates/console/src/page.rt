@@ -48,7 +48,10 @@ impl Page {
     }
 
     /// The value of a counter, or the refusal.
-    pub fn say_value<E: Display + Drop>(&mut self, answer: Result<u32, E>) -> Result<(), AllocError> {
+    pub fn say_value<E: Display + Drop>(
+        &mut self,
+        answer: Result<u32, E>,
+    ) -> Result<(), AllocError> {
         match answer {
             Ok(value) => self.say(format_args!("value {value}")),
             Err(fault) => self.say(fault),

@@ -159,9 +159,7 @@ fn say_row(page: &mut Page, place: usize, row: Row) -> Result<(), AllocError> {
         new,
         length,
     } = row;
-    page.say(format_args!(
-        "row {place} queue {queue} old {old} new {new} length {length}"
-    ))
+    page.say(format_args!("row {place} queue {queue} old {old} new {new} length {length}"))
 }
 
 /// A line for each row that tells of a record.
