@@ -3,9 +3,9 @@ use Rattle.std.proofs.Common.{◌≡◌, ℕ, ◌+◌, ◌%◌, ◌<◌, ◌≤�
 use Rattle.std.proofs.lemmas.List.{take_at, drop_at, drop-drop, get_or-drop, length-append}
 use Rattle.std.proofs.lemmas.Bool.{and_from, and_parts, eq-eqb, eqb-true, le-leb, leb-true, lt-ltb}
 use Rattle.statement.specs.declared.types.SignedStatement.{SignedStatement}
-use Rattle.statement.specs.Layout.{encoded_signed, decoded_signed, SizedSigned}
+use Rattle.statement.specs.Layout.{encoded_signed, decoded_signed, SizedSigned, signed_statement_size}
 use Rattle.statement.proofs.Layouts.{length-encoded_signed, decoded-encoded_signed}
-use Rattle.notice.specs.Limits.{signed_size, previous_size, text_limit, record_head, record_limit}
+use Rattle.notice.specs.Limits.{previous_size, text_limit, record_head, record_limit}
 use Rattle.notice.specs.Record.{recorded, signed_of, counter_of, old_of, new_of, previous_of, size_of, text_of, is_record, Tells}
 
 pub length-recorded :
@@ -25,7 +25,7 @@ recorded_tells s digest words h d =
     let n = length-encoded_signed s h in
     let tail : List ℕ = digest ++ (length words ∷ words) in
     let e : decoded_signed (recorded s digest words) ≡ s = decoded-encoded_signed s tail h in
-    let b : drop signed_size (recorded s digest words) ≡ tail = drop_at (encoded_signed s) tail 81 n in
+    let b : drop signed_statement_size (recorded s digest words) ≡ tail = drop_at (encoded_signed s) tail 81 n in
     let k : drop 113 (recorded s digest words) ≡ length words ∷ words =
     sym (drop-drop 32 81 (recorded s digest words)) ∙ (ap (drop 32) b ∙ drop_at digest (length words ∷ words) 32 d) in
     record {

@@ -3,12 +3,12 @@
 use Rattle.std.specs.Prelude.{ℕ, ◌+◌, ◌*◌, Bool, true, false, ◌||◌, List, [], ◌∷◌, ◌++◌, length, Some, None, Option, ◌==◌, if◌then◌else◌, Result}
 use Rattle.std.specs.List.{flat_map}
 use Rattle.statement.specs.declared.types.SignedStatement.{SignedStatement}
-use Rattle.statement.specs.Layout.{encoded}
+use Rattle.statement.specs.Layout.{encoded, signed_statement_size}
 use Rattle.notice.specs.declared.answer.Kind.{Kind}
 use Rattle.notice.specs.declared.answer.Kind.TheVariants.{Found, Skipped, Forgotten, NotYet, End, EndOfEmpty}
 use Rattle.notice.specs.declared.answer.UnknownKind.{UnknownKind}
 use Rattle.std.specs.Option.{ok_or}
-use Rattle.notice.specs.Limits.{signed_size, previous_size, text_limit, answer_head}
+use Rattle.notice.specs.Limits.{previous_size, text_limit, answer_head}
 
 abbrev pub number_of_kind : Kind → ℕ
 number_of_kind Found = 1
@@ -61,11 +61,11 @@ answer_bytes kind signed previous text =
 -- the length that the first three bytes of an answer give
 abbrev pub answer_length : ℕ → ℕ → ℕ → ℕ
 answer_length number count size =
-    answer_head + signed_size * count + (if number == 1 || number == 5 then previous_size + size else 0)
+    answer_head + signed_statement_size * count + (if number == 1 || number == 5 then previous_size + size else 0)
 
 -- the bytes before the text, or all of them where there is none
 abbrev pub head_length : Kind → ℕ
-head_length kind = answer_head + signed_size * statements_of kind + (if has_text kind then previous_size else 0)
+head_length kind = answer_head + signed_statement_size * statements_of kind + (if has_text kind then previous_size else 0)
 
 -- an answer of any kind is at most so long
 abbrev pub answer_limit : ℕ

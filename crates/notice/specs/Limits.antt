@@ -2,9 +2,6 @@
 use Rattle.std.specs.Prelude.{ℕ, ◌+◌}
 use Rattle.statement.specs.Layout.{signed_statement_size}
 
-abbrev pub signed_size : ℕ
-signed_size = signed_statement_size
-
 abbrev pub previous_size : ℕ
 previous_size = 32
 
@@ -13,7 +10,7 @@ text_limit = 200
 
 -- signed statement, previous digest, text length 1
 abbrev pub record_head : ℕ
-record_head = signed_size + previous_size + 1
+record_head = signed_statement_size + previous_size + 1
 
 abbrev pub record_limit : ℕ
 record_limit = record_head + text_limit

@@ -1,9 +1,9 @@
 -- A record: a signed statement, the previous digest, the text length (1) and the text.
 use Rattle.std.specs.Prelude.{◌≡◌, ℕ, ◌+◌, ◌/◌, ◌%◌, Bool, ◌&&◌, List, ◌∷◌, ◌++◌, length, take, drop, ◌==◌, nat_le, nat_lt, slice_index}
 use Rattle.statement.specs.declared.types.SignedStatement.{SignedStatement}
-use Rattle.statement.specs.Layout.{encoded_signed, decoded_signed}
+use Rattle.statement.specs.Layout.{encoded_signed, decoded_signed, signed_statement_size}
 use Rattle.notice.specs.declared.spans.Span.{Span}
-use Rattle.notice.specs.Limits.{signed_size, previous_size, text_limit, record_head}
+use Rattle.notice.specs.Limits.{previous_size, text_limit, record_head}
 use Rattle.notice.specs.Spans.{span_contains}
 
 -- the record of a signed statement, the previous digest and a text
@@ -29,10 +29,10 @@ unfoldable pub new_of : List ℕ → ℕ
 new_of r = (decoded_signed r).statement.new
 
 unfoldable pub previous_of : List ℕ → List ℕ
-previous_of r = take previous_size (drop signed_size r)
+previous_of r = take previous_size (drop signed_statement_size r)
 
 unfoldable pub size_of : List ℕ → ℕ
-size_of r = slice_index r (signed_size + previous_size)
+size_of r = slice_index r (signed_statement_size + previous_size)
 
 unfoldable pub text_of : List ℕ → List ℕ
 text_of r = drop record_head r

@@ -1,7 +1,7 @@
 // Records: their fields read from the bytes, and the test of a record.
 ghost use Rattle.std.specs.Prelude.{◌≡◌, ◌+◌, ◌<◌, length, if◌then◌else◌, Some, None, nat_le, slice_index};
-ghost use Rattle.statement.specs.Layout.{number_at};
-ghost use Rattle.notice.specs.Limits.{signed_size, previous_size};
+ghost use Rattle.statement.specs.Layout.{number_at, signed_statement_size};
+ghost use Rattle.notice.specs.Limits.{previous_size};
 ghost use Rattle.notice.specs.Record.{signed_of, counter_of, old_of, new_of, queue_of, span_of, previous_of, size_of, text_of, is_record};
 
 use super::limits::{PREVIOUS_SIZE, RECORD_HEAD, TEXT_LIMIT};
@@ -51,7 +51,7 @@ impl<'a> Record<'a> {
     /// The signed statement, none where the bytes are too few.
     #[tactic(auto, unfolding(crate::specs::Record::signed_of))]
     pub fn signed(&self) -> Option<SignedStatement>
-        ensures answers { result ≡ (if nat_le signed_size (length self.now) then Some (signed_of self.now) else None) }
+        ensures answers { result ≡ (if nat_le signed_statement_size (length self.now) then Some (signed_of self.now) else None) }
     {
         SignedStatement::read(self.bytes)
     }
@@ -100,7 +100,7 @@ impl<'a> Record<'a> {
     /// The previous digest, none where the bytes are too few.
     #[tactic(auto, unfolding(crate::specs::Record::previous_of))]
     pub fn previous(&self) -> Option<[u8; PREVIOUS_SIZE]>
-        ensures answers { result ≡ (if nat_le (signed_size + previous_size) (length self.now) then Some (previous_of self.now) else None) }
+        ensures answers { result ≡ (if nat_le (signed_statement_size + previous_size) (length self.now) then Some (previous_of self.now) else None) }
     {
         if self.bytes.len() < SIZE_AT {
             return None;

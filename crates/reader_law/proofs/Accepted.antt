@@ -4,10 +4,10 @@ use Rattle.std.proofs.lemmas.List.{length-drop, drop_all}
 use Rattle.std.proofs.lemmas.Bool.{eqb-true, leb-true}
 use Rattle.digest.specs.Hmac.{hmac}
 use Rattle.statement.specs.declared.types.SignedStatement.{SignedStatement}
-use Rattle.statement.specs.Layout.{encoded, SizedSigned}
+use Rattle.statement.specs.Layout.{encoded, SizedSigned, signed_statement_size}
 use Rattle.notice.specs.declared.answer.Kind.{Kind}
 use Rattle.notice.specs.declared.answer.Kind.TheVariants.{Found, Skipped, Forgotten, NotYet, End, EndOfEmpty}
-use Rattle.notice.specs.Limits.{answer_head, signed_size, previous_size, text_limit}
+use Rattle.notice.specs.Limits.{answer_head, previous_size, text_limit}
 use Rattle.notice.specs.Answer.{number_of_kind, statements_of, answer_bytes, answer_length, head_length}
 use Rattle.reader.specs.declared.types.Question.{Question}
 use Rattle.reader.specs.declared.types.Verdict.{Verdict}
@@ -36,9 +36,9 @@ whole EndOfEmpty n total e h = let z = eqb-true n 0 h in record { total_is = ome
 
 -- an answer of a kind is the layout of the statements that are read from it
 one_layout :
-    (kind : Kind) (answer previous text : List ℕ) → Below answer → answer_head + signed_size ≤ length answer →
+    (kind : Kind) (answer previous text : List ℕ) → Below answer → answer_head + signed_statement_size ≤ length answer →
     get_or answer 0 0 ≡ number_of_kind kind → get_or answer 1 0 ≡ 1 → get_or answer 2 0 ≡ length text →
-    drop signed_size (drop answer_head answer) ≡ tail_of kind previous text →
+    drop signed_statement_size (drop answer_head answer) ≡ tail_of kind previous text →
     answer ≡ answer_bytes kind (signed_in 1 0 (drop answer_head answer) ∷ []) previous text
 one_layout kind answer previous text below long n c z tail =
     let rest = drop answer_head answer in
@@ -49,9 +49,9 @@ one_layout kind answer previous text below long n c z tail =
     cc
 
 end_layout :
-    (answer previous text : List ℕ) → Below answer → answer_head + signed_size * 2 ≤ length answer →
+    (answer previous text : List ℕ) → Below answer → answer_head + signed_statement_size * 2 ≤ length answer →
     get_or answer 0 0 ≡ 5 → get_or answer 1 0 ≡ 2 → get_or answer 2 0 ≡ length text →
-    drop (signed_size * 2) (drop answer_head answer) ≡ previous ++ text →
+    drop (signed_statement_size * 2) (drop answer_head answer) ≡ previous ++ text →
     answer ≡ answer_bytes End (signed_in 2 0 (drop answer_head answer) ∷ signed_in 2 1 (drop answer_head answer) ∷ []) previous text
 end_layout answer previous text below long n c z tail =
     let rest = drop answer_head answer in
@@ -74,7 +74,7 @@ record One (kind : Kind) (identity key : List ℕ) (counter : ℕ) (answer : Lis
 
 one :
     (kind : Kind) (identity key : List ℕ) (counter : ℕ) (answer : List ℕ) → Below answer → statements_of kind ≡ 1 →
-    right_size kind (get_or answer 2 0) ≡ (get_or answer 2 0 == 0) → tail_of kind [] [] ≡ [] → head_length kind ≡ answer_head + signed_size →
+    right_size kind (get_or answer 2 0) ≡ (get_or answer 2 0 == 0) → tail_of kind [] [] ≡ [] → head_length kind ≡ answer_head + signed_statement_size →
     get_or answer 0 0 ≡ number_of_kind kind → get_or answer 1 0 ≡ statements_of kind → right_size kind (get_or answer 2 0) ≡ true →
     length answer ≡ head_length kind + get_or answer 2 0 →
     (signed_in 1 0 (drop answer_head answer)).tag ≡ hmac key (encoded (signed_in 1 0 (drop answer_head answer)).statement) →
@@ -85,7 +85,7 @@ one kind identity key counter answer below single test none head n c fits total 
     let l = length-drop answer_head answer in
     let zero : get_or answer 2 0 ≡ 0 = eqb-true (get_or answer 2 0) 0 (sym test ∙ fits) in
     record {
-      layout = one_layout kind answer [] [] below (omega arith) n (c ∙ single) zero (drop_all signed_size rest (omega arith) ∙ sym none);
+      layout = one_layout kind answer [] [] below (omega arith) n (c ∙ single) zero (drop_all signed_statement_size rest (omega arith) ∙ sym none);
       signed = signed_by identity key counter (signed_in 1 0 rest) (read_sized 1 0 rest (omega arith) (omega arith)) tagged from;
     }
 
@@ -97,14 +97,14 @@ row_of :
 row_of Found identity key question answer v below f w k =
     let rest = drop answer_head answer in
     let l = length-drop answer_head answer in
-    let m = length-drop (signed_size + previous_size) rest in
+    let m = length-drop (signed_statement_size + previous_size) rest in
     let e = w.total_is in
-    let p = length_part signed_size previous_size rest (omega arith) in
+    let p = length_part signed_statement_size previous_size rest (omega arith) in
     record {
       advance = signed_in 1 0 rest;
       previous = previous_in 1 rest;
       text = text_in Found rest;
-      layout = one_layout Found answer (previous_in 1 rest) (text_in Found rest) below (omega arith) f.number_is f.count_is (omega arith) (split_at signed_size previous_size rest);
+      layout = one_layout Found answer (previous_in 1 rest) (text_in Found rest) below (omega arith) f.number_is f.count_is (omega arith) (split_at signed_statement_size previous_size rest);
       previous_bytes = p;
       short = omega (arith, w.short);
       signed = signed_by identity key _ (signed_in 1 0 rest) (read_sized 1 0 rest (omega arith) (omega arith)) k.tagged.0 k.origin_is.0;
@@ -149,15 +149,15 @@ row_of NotYet identity key question answer v below f w k =
 row_of End identity key question answer v below f w k =
     let rest = drop answer_head answer in
     let l = length-drop answer_head answer in
-    let m = length-drop (signed_size * 2 + previous_size) rest in
+    let m = length-drop (signed_statement_size * 2 + previous_size) rest in
     let e = w.total_is in
     record {
       status = signed_in 2 0 rest;
       advance = signed_in 2 1 rest;
       previous = previous_in 2 rest;
       text = text_in End rest;
-      layout = end_layout answer (previous_in 2 rest) (text_in End rest) below (omega arith) f.number_is f.count_is (omega arith) (split_at (signed_size * 2) previous_size rest);
-      previous_bytes = length_part (signed_size * 2) previous_size rest (omega arith);
+      layout = end_layout answer (previous_in 2 rest) (text_in End rest) below (omega arith) f.number_is f.count_is (omega arith) (split_at (signed_statement_size * 2) previous_size rest);
+      previous_bytes = length_part (signed_statement_size * 2) previous_size rest (omega arith);
       short = omega (arith, w.short);
       signed = signed_by identity key _ (signed_in 2 0 rest) (read_sized 2 0 rest (omega arith) (omega arith)) k.tagged.0 k.origin_is.0;
       also_signed = signed_by identity key _ (signed_in 2 1 rest) (read_sized 2 1 rest (omega arith) (omega arith)) k.tagged.1 k.origin_is.1;

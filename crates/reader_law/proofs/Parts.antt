@@ -5,10 +5,10 @@ use Rattle.std.proofs.lemmas.Bool.{cases_lt}
 use Rattle.digest.specs.Sizes.{digest_size}
 use Rattle.statement.specs.declared.types.Statement.{Statement}
 use Rattle.statement.specs.declared.types.SignedStatement.{SignedStatement}
-use Rattle.statement.specs.Layout.{statement_size, encoded, decoded, SizedSigned}
+use Rattle.statement.specs.Layout.{statement_size, encoded, decoded, SizedSigned, signed_statement_size}
 use Rattle.statement.proofs.Layouts.{length-encoded, decoded-encoded, encoded-decoded}
 use Rattle.notice.specs.declared.answer.Kind.{Kind}
-use Rattle.notice.specs.Limits.{answer_head, signed_size}
+use Rattle.notice.specs.Limits.{answer_head}
 use Rattle.notice.specs.Answer.{number_of_kind, has_text, answer_bytes}
 use Rattle.reader.specs.Evidence.{signed_in}
 
@@ -61,7 +61,7 @@ written_again n xs h long =
 
 -- what is read is of the right lengths
 pub read_sized :
-    (count place : ℕ) (xs : List ℕ) → place < count → signed_size * count ≤ length xs → SizedSigned (signed_in count place xs)
+    (count place : ℕ) (xs : List ℕ) → place < count → signed_statement_size * count ≤ length xs → SizedSigned (signed_in count place xs)
 read_sized count place xs within long =
     let part = take statement_size (drop (statement_size * place) xs) in
     let l = length_part (statement_size * place) statement_size xs (omega arith) in
@@ -112,17 +112,17 @@ answer_of_two kind s t previous text = simp (append_assoc, append-nil)
 
 -- bytes are those of the statements that are read from them
 pub one_written :
-    (xs : List ℕ) → Below xs → signed_size ≤ length xs → xs ≡ bytes_of_one (signed_in 1 0 xs) (drop signed_size xs)
+    (xs : List ℕ) → Below xs → signed_statement_size ≤ length xs → xs ≡ bytes_of_one (signed_in 1 0 xs) (drop signed_statement_size xs)
 one_written xs h long =
     split_at 0 statement_size xs
     ∙ (ap (λ z. take statement_size (drop 0 xs) ++ z) (split_at statement_size digest_size xs)
-    ∙ ap (λ z. z ++ (take digest_size (drop statement_size xs) ++ drop signed_size xs)) (sym (written_again 0 xs h (omega arith))))
+    ∙ ap (λ z. z ++ (take digest_size (drop statement_size xs) ++ drop signed_statement_size xs)) (sym (written_again 0 xs h (omega arith))))
 
 pub two_written :
-    (xs : List ℕ) → Below xs → signed_size * 2 ≤ length xs →
-    xs ≡ bytes_of_two (signed_in 2 0 xs) (signed_in 2 1 xs) (drop (signed_size * 2) xs)
+    (xs : List ℕ) → Below xs → signed_statement_size * 2 ≤ length xs →
+    xs ≡ bytes_of_two (signed_in 2 0 xs) (signed_in 2 1 xs) (drop (signed_statement_size * 2) xs)
 two_written xs h long =
-    let rest = take digest_size (drop (statement_size * 2) xs) ++ (take digest_size (drop (statement_size * 2 + digest_size) xs) ++ drop (signed_size * 2) xs) in
+    let rest = take digest_size (drop (statement_size * 2) xs) ++ (take digest_size (drop (statement_size * 2 + digest_size) xs) ++ drop (signed_statement_size * 2) xs) in
     split_at 0 statement_size xs
     ∙ (ap (λ z. take statement_size (drop 0 xs) ++ z)
     (split_at statement_size statement_size xs ∙ (ap (λ z. take statement_size (drop statement_size xs) ++ z) (split_at (statement_size * 2) digest_size xs ∙ ap (λ z. take digest_size (drop (statement_size * 2) xs) ++ z) (split_at (statement_size * 2 + digest_size) digest_size xs))
@@ -132,8 +132,8 @@ two_written xs h long =
 -- and statements are read from their bytes
 pub record OneRead (xs tail : List ℕ) (s : SignedStatement) : Type 0 where
   pub first : signed_in 1 0 xs ≡ s
-  pub behind : drop signed_size xs ≡ tail
-  pub total : length xs ≡ signed_size + length tail
+  pub behind : drop signed_statement_size xs ≡ tail
+  pub total : length xs ≡ signed_statement_size + length tail
 
 pub one_read : (xs tail : List ℕ) (s : SignedStatement) → SizedSigned s → xs ≡ bytes_of_one s tail → OneRead xs tail s
 one_read xs tail s h e =
@@ -145,8 +145,8 @@ one_read xs tail s h e =
 pub record TwoRead (xs tail : List ℕ) (s t : SignedStatement) : Type 0 where
   pub first : signed_in 2 0 xs ≡ s
   pub second : signed_in 2 1 xs ≡ t
-  pub behind : drop (signed_size * 2) xs ≡ tail
-  pub total : length xs ≡ signed_size * 2 + length tail
+  pub behind : drop (signed_statement_size * 2) xs ≡ tail
+  pub total : length xs ≡ signed_statement_size * 2 + length tail
 
 pub two_read :
     (xs tail : List ℕ) (s t : SignedStatement) → SizedSigned s → SizedSigned t → xs ≡ bytes_of_two s t tail → TwoRead xs tail s t

@@ -4,10 +4,10 @@ use Rattle.std.proofs.lemmas.List.{length-append}
 use Rattle.std.proofs.lemmas.Bool.{le-leb}
 use Rattle.digest.specs.Hmac.{hmac}
 use Rattle.statement.specs.declared.types.SignedStatement.{SignedStatement}
-use Rattle.statement.specs.Layout.{encoded, SizedSigned}
+use Rattle.statement.specs.Layout.{encoded, SizedSigned, signed_statement_size}
 use Rattle.notice.specs.declared.answer.Kind.{Kind}
 use Rattle.notice.specs.declared.answer.Kind.TheVariants.{Found, Skipped, Forgotten, NotYet, End, EndOfEmpty}
-use Rattle.notice.specs.Limits.{answer_head, signed_size, previous_size, text_limit}
+use Rattle.notice.specs.Limits.{answer_head, previous_size, text_limit}
 use Rattle.notice.specs.Answer.{number_of_kind, statements_of, has_text, answer_bytes, answer_length, head_length}
 use Rattle.reader.specs.declared.types.Question.{Question}
 use Rattle.reader.specs.declared.types.Verdict.{Verdict}
@@ -78,14 +78,14 @@ nothing false = refl
 bare :
     (kind : Kind) (answer : List ℕ) (s : SignedStatement) (e : SignedStatement → Evidence) → SizedSigned s →
     ((xs : List ℕ) → evidence_in kind xs ≡ e (signed_in 1 0 xs)) → right_size kind 0 ≡ true → statements_of kind ≡ 1 →
-    head_length kind ≡ answer_head + signed_size → answer_length (number_of_kind kind) 1 0 ≡ answer_head + signed_size →
+    head_length kind ≡ answer_head + signed_statement_size → answer_length (number_of_kind kind) 1 0 ≡ answer_head + signed_statement_size →
     answer ≡ answer_bytes kind (s ∷ []) [] [] → Reads kind answer [] (e s)
 bare kind answer s e sized shown fits one head total layout =
     let tail = tail_of kind [] [] in
     let none : tail ≡ [] = nothing (has_text kind) in
     let h = headed_as answer (bytes_of_one s tail) (number_of_kind kind) 1 0 (layout ∙ answer_of_one kind s [] []) in
     let r = one_read (drop answer_head answer) tail s sized h.behind in
-    let length_is : length answer ≡ answer_head + signed_size = omega (arith, h.total, ap length h.behind, r.total, ap length none) in
+    let length_is : length answer ≡ answer_head + signed_statement_size = omega (arith, h.total, ap length h.behind, r.total, ap length none) in
     record {
       number_is = h.first;
       count_is = h.second ∙ sym one;
@@ -103,7 +103,7 @@ found :
 found answer previous text s sized p short layout =
     let h = headed_as answer (bytes_of_one s (previous ++ text)) 1 1 (length text) (layout ∙ answer_of_one Found s previous text) in
     let r = one_read (drop answer_head answer) (previous ++ text) s sized h.behind in
-    let d = stands signed_size previous_size (drop answer_head answer) previous text r.behind p in
+    let d = stands signed_statement_size previous_size (drop answer_head answer) previous text r.behind p in
     let l = length-append previous text in
     let length_is : length answer ≡ head_length Found + length text = omega (arith, h.total, ap length h.behind, r.total) in
     record {
@@ -123,7 +123,7 @@ end :
 end answer previous text s t sized also p short layout =
     let h = headed_as answer (bytes_of_two s t (previous ++ text)) 5 2 (length text) (layout ∙ answer_of_two End s t previous text) in
     let r = two_read (drop answer_head answer) (previous ++ text) s t sized also h.behind in
-    let d = stands (signed_size * 2) previous_size (drop answer_head answer) previous text r.behind p in
+    let d = stands (signed_statement_size * 2) previous_size (drop answer_head answer) previous text r.behind p in
     let l = length-append previous text in
     let length_is : length answer ≡ head_length End + length text = omega (arith, h.total, ap length h.behind, r.total) in
     record {
