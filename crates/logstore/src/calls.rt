@@ -1,5 +1,5 @@
 // The calls of the log store.
-ghost use Rattle.std.specs.Prelude.{◌≡◌, ℕ, ◌+◌, ◌≤◌, IfSome, true, false, [], ◌∷◌, ◌++◌, length, drop, replicate, is_ok, if◌then◌else◌, Some, None, filter, nat_le};
+ghost use Rattle.std.specs.Prelude.{◌≡◌, ℕ, ◌≤◌, IfSome, true, false, [], ◌∷◌, ◌++◌, length, drop, replicate, if◌then◌else◌, Some, None, filter, nat_le};
 ghost use Rattle.std.specs.List.Sorted.{IsPermutation};
 ghost use Rattle.std.specs.Option.{option_map};
 ghost use Rattle.std.specs.Result.{OnErr};

@@ -22,6 +22,7 @@ pub(crate) fn lay(area: &mut [u8], at: usize, record: &[u8])
 
 /// Moves the records that stay together, in their order, clears what they leave, and tells how far they reach and
 /// how many they are.
+// The place is counted along, since an iterator over the records would borrow the area that the loop writes.
 pub(crate) fn compact(area: &mut [u8], held: Extent, queue: u8, below: u32) -> Extent
     requires lies { Layout held.count area.old }
     requires reach { held.used ≡ length (laid (parse held.count area.old)) }
