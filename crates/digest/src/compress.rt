@@ -107,12 +107,14 @@ fn message_schedule(block: [u32; 16]) -> [u32; ROUNDS]
     w
 }
 
+// The 64 rounds, each with its constant and its word of the schedule.
 fn all_rounds(value: [u32; 8], schedule: &[u32; ROUNDS]) -> [u32; 8]
     ensures answers { result ≡ rounds 64 schedule.now value }
 {
     ROUND_CONSTANTS.iter().zip(schedule).fold(value, one_round)
 }
 
+// Each working variable added to the one before the rounds.
 fn sum(x: [u32; 8], y: [u32; 8]) -> [u32; 8]
     ensures answers { result ≡ summed x y }
 {

@@ -18,7 +18,8 @@ const IPAD: u8 = 0x36;
 
 const OPAD: u8 = 0x5c;
 
-// Holds the part of a working area that is used, and zeroes it when it goes.
+// Holds the part of a working area that is used, which `split_at_mut` gave, and zeroes it when it goes. A rule of the
+// project asks for this form.
 struct Wiper<'a> {
     part: &'a mut [u8],
 }
@@ -106,7 +107,6 @@ pub fn tag(key: &[u8], message: &[u8], working: &mut [u8]) -> Result<[u8; DIGEST
     Ok(mac(key, message, block))
 }
 
-#[tactic(auto, using(crate::proofs::Wiped::wiped_parts))]
 /// Leaves a working area as `tag` would, for calls that make no tag.
 pub fn wipe(working: &mut [u8])
     ensures working { working.new ≡ wiped working.old }

@@ -1,4 +1,5 @@
-// SHA-256 digests and HMAC-SHA-256 tags, made with no heap.
+// SHA-256 digests and HMAC-SHA-256 tags, made with no heap. The compression is the crate's own, and not a library's: wrong
+// edits of it are shown to be refused.
 #![tactic(auto)]
 
 mod compress;
