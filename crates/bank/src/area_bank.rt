@@ -88,8 +88,6 @@ impl<F: Format> Bank for AreaBank<'_, F> {
 
     ghost bound = { λ b. limit_by F.format (area_of b) };
 
-    ghost sound = { λ b. format_sound F.format F.sixteen (area_of b) };
-
     fn value(&self, counter: u8) -> Result<u32, BankFault> {
         if counter > 15 {
             return Err(BankFault::NoCounter(counter));
@@ -123,4 +121,6 @@ impl<F: Format> Bank for AreaBank<'_, F> {
             None => 0,
         }
     }
+
+    ghost sound = { λ b. format_sound F.format F.sixteen (area_of b) };
 }

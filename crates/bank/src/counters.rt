@@ -17,9 +17,6 @@ pub trait Bank {
 
     ghost bound: { Self → ℕ };
 
-    // Each bank shows that there are sixteen, none above the limit.
-    ghost sound: { (b : Self) → Sound (numbers b) (bound b) };
-
     /// A counter's number.
     fn value(&self, counter: u8) -> Result<u32, BankFault>
         ensures answers { result ≡ telling (numbers self.now) counter };
@@ -33,6 +30,9 @@ pub trait Bank {
     /// The number that no counter exceeds.
     fn limit(&self) -> u32
         ensures answers { result ≡ bound self.now };
+
+    // There are sixteen, none above the limit.
+    ghost sound: { (b : Self) → Sound (numbers b) (bound b) };
 }
 
 /// Whether a counter may go from its old number to a new one, the refusals in their order.

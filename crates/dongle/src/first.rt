@@ -57,8 +57,6 @@ impl<B: Bank> Dongle for FirstDongle<B> {
 
     ghost most = { λ d. B.Bank.bound d.bank };
 
-    ghost whole = { λ d. whole_over d.signer.identity d.signer.key (B.Bank.numbers d.bank) d.signer.identity_bytes d.signer.key_bytes (B.Bank.sound d.bank).sixteen };
-
     #[tactic(auto, using(crate::proofs::Wipes::wiped_again))]
     fn attest(
         &mut self,
@@ -95,4 +93,6 @@ impl<B: Bank> Dongle for FirstDongle<B> {
     fn value(&self, counter: u8) -> Result<u32, DongleFault> {
         number_of(&self.bank, counter)
     }
+
+    ghost whole = { λ d. whole_over d.signer.identity d.signer.key (B.Bank.numbers d.bank) d.signer.identity_bytes d.signer.key_bytes (B.Bank.sound d.bank).sixteen };
 }

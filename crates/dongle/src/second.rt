@@ -64,8 +64,6 @@ impl<D: Dongle> Dongle for SecondDongle<D> {
 
     ghost most = { λ d. D.Dongle.most d.inner };
 
-    ghost whole = { λ d. D.Dongle.whole d.inner };
-
     fn attest(
         &mut self,
         counter: u8,
@@ -106,4 +104,6 @@ impl<D: Dongle> Dongle for SecondDongle<D> {
     fn value(&self, counter: u8) -> Result<u32, DongleFault> {
         self.inner.value(counter)
     }
+
+    ghost whole = { λ d. D.Dongle.whole d.inner };
 }

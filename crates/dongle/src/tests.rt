@@ -17,8 +17,6 @@ impl<D: Dongle> Dongle for Counting<D> {
 
     ghost most = { λ d. D.Dongle.most d.inner };
 
-    ghost whole = { λ d. D.Dongle.whole d.inner };
-
     fn attest(
         &mut self,
         counter: u8,
@@ -50,6 +48,8 @@ impl<D: Dongle> Dongle for Counting<D> {
     fn value(&self, counter: u8) -> Result<u32, DongleFault> {
         self.inner.value(counter)
     }
+
+    ghost whole = { λ d. D.Dongle.whole d.inner };
 }
 
 /// Raises counter 1 twice, is refused once, and tells where it then stands.

@@ -13,8 +13,6 @@ pub trait Dongle {
 
     ghost most: { Self → ℕ };
 
-    ghost whole: { (d : Self) → Whole (model d) };
-
     /// Raises one counter, and signs the step.
     fn attest(
         &mut self,
@@ -50,4 +48,6 @@ pub trait Dongle {
     /// A counter's number, unsigned.
     fn value(&self, counter: u8) -> Result<u32, DongleFault>
         ensures answers { result ≡ valuing (model self.now) counter };
+
+    ghost whole: { (d : Self) → Whole (model d) };
 }

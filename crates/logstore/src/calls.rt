@@ -103,10 +103,6 @@ impl<'a> Store for LogStore<'a> {
 
     ghost fits = { log_fits };
 
-    ghost records = { λ s. s.sound.good };
-
-    ghost apart = { λ s. s.sound.apart };
-
     fn put(&mut self, record: &[u8]) -> Result<(), StoreFault>
         ensures answers { result ≡ putting (log_fits self.old (length «record».now)) (log_held self.old) «record».now }
         ensures becomes { log_held self.new ≡ after_put (log_fits self.old (length «record».now)) (log_held self.old) «record».now }
@@ -164,4 +160,8 @@ impl<'a> Store for LogStore<'a> {
     {
         self.held = compact(self.area, self.held, queue, below);
     }
+
+    ghost records = { λ s. s.sound.good };
+
+    ghost apart = { λ s. s.sound.apart };
 }

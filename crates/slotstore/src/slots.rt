@@ -135,10 +135,6 @@ impl<'a> Store for SlotStore<'a> {
 
     ghost fits = { slot_fits };
 
-    ghost records = { λ s. s.sound.good };
-
-    ghost apart = { λ s. s.sound.apart };
-
     fn put(&mut self, record: &[u8]) -> Result<(), StoreFault>
         ensures answers { result ≡ putting (slot_fits self.old (length «record».now)) (slot_held self.old) «record».now }
         ensures becomes { slot_held self.new ≡ after_put (slot_fits self.old (length «record».now)) (slot_held self.old) «record».now }
@@ -198,4 +194,8 @@ impl<'a> Store for SlotStore<'a> {
             from = index;
         }
     }
+
+    ghost records = { λ s. s.sound.good };
+
+    ghost apart = { λ s. s.sound.apart };
 }

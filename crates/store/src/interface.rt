@@ -14,10 +14,6 @@ pub trait Store {
     // Whether a record of a length fits.
     ghost fits: { Self → ℕ → Bool };
 
-    ghost records: { (s : Self) → Records (held s) };
-
-    ghost apart: { (s : Self) → Apart (held s) };
-
     /// Adds a record, or refuses it as `admit` does and stays as it is.
     fn put(&mut self, record: &[u8]) -> Result<(), StoreFault>
         ensures answers { result ≡ putting (fits self.old (length «record».now)) (held self.old) «record».now }
@@ -40,4 +36,8 @@ pub trait Store {
     /// Removes the records of the queue whose new is below a number.
     fn forget(&mut self, queue: u8, below: u32)
         ensures becomes { IsPermutation (filter (stays queue below) (held self.old)) (held self.new) };
+
+    ghost records: { (s : Self) → Records (held s) };
+
+    ghost apart: { (s : Self) → Apart (held s) };
 }
