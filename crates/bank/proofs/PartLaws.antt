@@ -1,7 +1,7 @@
 -- Laws of an area cut into equal parts: what stands in each, and what a write to one leaves.
 use Rattle.std.proofs.Common.{◌≡◌, ℕ, zero, suc, ◌+◌, ◌*◌, ◌<◌, ◌≤◌, List, [], ◌∷◌, ◌++◌, map, length, get_or, take, drop, set, sym, ap, ◌∙◌, le_of_suc-le-suc, not-suc-le-zero, add_assoc, add_comm, mul-le-mul_left, mul-zero, zero-add, mul-suc, arith, take-add}
 use borrow.Rule.Slice.PartMut.{put_mid}
-use Rattle.std.proofs.lemmas.List.{length-take, length-drop, length-append, drop-drop, take_at, drop_at, append_assoc, get_or-map, get_or-set_same}
+use Rattle.std.proofs.lemmas.List.{length-take, length-drop, length-append, drop-drop, take_at, drop_at, append_assoc, get_or-map}
 use Rattle.std.specs.Simd.{first_chunks}
 use Rattle.bank.specs.Parts.{part, with_part}
 use Rattle.bank.specs.Soundness.{length-first_chunks}
@@ -51,10 +51,3 @@ pub get_or_map-first_chunks : (f : List ℕ → ℕ) (n s c : ℕ) (area : List 
 get_or_map-first_chunks f n s c area h =
     let long : c < length (first_chunks s n area) = rw length-first_chunks h in
     get_or-map f (first_chunks s n area) c [] 0 long ∙ ap f (get_or-first_chunks n s c area h)
-
--- what was written to a part stands in it
-pub part_with_part : (n s c : ℕ) (area bytes : List ℕ) → c < n → s * n ≤ length area → length bytes ≡ s → part s c (with_part s c area bytes) ≡ bytes
-part_with_part n s c area bytes h fits e =
-    let long : c < length (first_chunks s n area) = rw length-first_chunks h in
-    sym (get_or-first_chunks n s c (with_part s c area bytes) h)
-    ∙ ap (λ ps. get_or ps c []) (first_chunks-with_part n s c area bytes h fits e) ∙ get_or-set_same (first_chunks s n area) c bytes [] long

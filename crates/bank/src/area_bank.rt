@@ -80,6 +80,8 @@ fn raise_at<F: Format>(area: &mut [u8], size: usize, counter: u8, from: u32, to:
     F::raise(&mut area[at..at + size], from, to);
 }
 
+// Over words, `numbers_by`, `limit_by`, `raised_by_format` and `usable` of the format are `numbers_in`, `limit_of`,
+// `area_raised` and `word_area` of specs/Word, and over tallies those of specs/TallyArea.
 impl<F: Format> Bank for AreaBank<'_, F> {
     ghost use Rattle.bank.specs.AreaBank.{area_of};
     ghost use Rattle.bank.specs.Soundness.{format_sound};

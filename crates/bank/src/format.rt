@@ -4,7 +4,7 @@ ghost use Rattle.bank.specs.Format.{Format, Sixteen, Holds, size_in};
 
 /// Sixteen parts of one size, a number in each.
 pub(crate) trait Format {
-    /// The most bytes of a part.
+    /// The most bytes of a part. It differs from format to format.
     const LONGEST: usize;
 
     // What an area means, which sizes a part may have, and what else is known of a part that was raised.

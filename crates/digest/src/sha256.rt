@@ -100,7 +100,7 @@ pub(crate) fn finish(value: [u32; 8], before: usize, message: &[u8]) -> [u8; DIG
     value_bytes(absorb_last(value, rest, before + message.len()))
 }
 
-// SHA-256 of a message within no limit of the calls: theirs is tried before.
+// SHA-256 of a message of any length; the calls try their limit before.
 pub(crate) fn hash(message: &[u8]) -> [u8; DIGEST_SIZE]
     ensures answers { result ≡ sha256 message.now }
 {

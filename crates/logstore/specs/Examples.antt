@@ -5,7 +5,7 @@ use Rattle.store.specs.declared.fault.StoreFault.TheVariants.{DoesNotFit}
 use Rattle.store.specs.Meaning.{Bytes, putting}
 use Rattle.logstore.specs.Log.{log_takes}
 
--- the bytes of the smallest log that takes a record
+-- the bytes of the smallest log that takes a record with an empty text
 abbrev pub smallest_log : ℕ
 smallest_log = 116
 

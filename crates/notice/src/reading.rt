@@ -18,7 +18,8 @@ const NEW_AT: usize = 13;
 
 const SIZE_AT: usize = SIGNED_STATEMENT_SIZE + PREVIOUS_SIZE;
 
-/// Bytes read as a record. Each method answers for any bytes: past their end it reads 0.
+/// Bytes read as a record. Each method answers for any bytes: numbers past their end are read as 0,
+/// and `signed` and `previous` are none where bytes are missing.
 #[derive(Drop)]
 pub struct Record<'a> {
     bytes: &'a [u8],

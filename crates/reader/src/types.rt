@@ -29,8 +29,8 @@ pub struct Challenge {
     pub(crate) question: Question,
 }
 
-/// What an accepted answer says. Its numbers are plain, 0 where there is none, so that a C caller can be handed the
-/// same struct.
+/// What an accepted answer says. Its numbers are plain, 0 where there is none, as the rules tell them: a rule of the
+/// project, so that an entry point in C's form can promise the same.
 #[derive(Clone, Copy)]
 pub struct Verdict {
     pub kind: Kind,

@@ -8,7 +8,7 @@ use Rattle.store.specs.Meaning.{Bytes, after_put, found}
 abbrev pub most : ℕ
 most = 0xFFFF_FFFF
 
--- records put one after another lead from one list of records to another; which of them fit the store tells
+-- records put one after another lead from one list of records to another; which of them fit is left open
 abbrev pub Fills : List Bytes → List Bytes → List Bytes → Type 0
 Fills held [] after = held ≡ after
 Fills held (r ∷ rs) after = (fits : Bool) × Fills (after_put fits held r) rs after

@@ -8,7 +8,7 @@ use digest::{DIGEST_SIZE, digest};
 /// What a call answers where the area for its answer is too short.
 const SHORT: u32 = 255;
 
-/// The digest goes to the front of `out`, which has as many bytes or more; 0, or the refusal's number, or 255 where
+/// The digest goes to the front of `out`, which has room for its 32 bytes; 0, or the refusal's number, or 255 where
 /// `out` is short: a number, since an enum does not cross to C.
 #[unsafe(no_mangle)]
 pub extern "C" fn speed_digest(message: &[u8], out: &mut [u8]) -> u32

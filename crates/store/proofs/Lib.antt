@@ -1,4 +1,3 @@
-pub mod Covers
 pub mod Histories
 pub mod Puts
 pub mod Sets

@@ -4,7 +4,7 @@ use Rattle.std.proofs.lemmas.Grind.{common_steps}
 use Rattle.notice.specs.declared.spans.Span.{Span}
 use Rattle.notice.specs.Record.{counter_of, is_record, span_of}
 use Rattle.store.specs.declared.fault.StoreFault.{StoreFault}
-use Rattle.store.specs.declared.fault.StoreFault.TheVariants.{BadRecord, AlreadySpanned, DoesNotFit}
+use Rattle.store.specs.declared.fault.StoreFault.TheVariants.{DoesNotFit}
 use Rattle.store.specs.Meaning.{Bytes, any_meets, spanned, admitting, putting, after_put}
 
 -- what admit answers, of what a store says of the record, is what put answers
@@ -15,14 +15,6 @@ unfolding putting spanned
 admitting-putting fits held r e g h k = rw (h, k, g, e) refl
 
 module _ (fits : Bool) (held : List Bytes) (r : Bytes) where
-  pub putting-bad : is_record r ≡ false → putting fits held r ≡ Err BadRecord
-  unfolding putting
-  putting-bad h = rw h refl
-
-  pub putting-spanned : is_record r ≡ true → spanned held r ≡ true → putting fits held r ≡ Err (AlreadySpanned (counter_of r))
-  unfolding putting
-  putting-spanned h s = rw (h, s) refl
-
   pub putting-full :
       is_record r ≡ true → spanned held r ≡ false → fits ≡ false → putting fits held r ≡ Err (DoesNotFit (counter_of r))
   unfolding putting

@@ -6,7 +6,8 @@ use super::fault::StoreFault;
 use notice::Record;
 
 /// Whether a store takes a record, of which it says whether one of its positions is spanned and whether it fits. It is
-/// refused, in this order, where it is no record of the high counter of a queue, is spanned, or does not fit.
+/// refused, in this order, where it is no record of the high counter of a queue, is spanned, or does not fit. What the
+/// store says of bytes that are no record plays no part.
 pub fn admit(record: &Record, is_spanned: bool, fits: bool) -> Result<(), StoreFault>
     ensures answers { result ≡ admitting is_spanned fits «record».now }
 {
