@@ -10,7 +10,7 @@ use std::array;
 
 const ROUNDS: usize = 64;
 
-// The rounds that the compiler writes out in one go.
+// The rounds in one chunk.
 const CHUNK: usize = 8;
 
 const ROUND_CONSTANTS: [u32; ROUNDS] = [
@@ -110,7 +110,8 @@ fn message_schedule(block: [u32; 16]) -> [u32; ROUNDS]
     w
 }
 
-// A chunk of the rounds. The compiler writes so few of them out, and so keeps the working variables in registers.
+// A chunk of the rounds. The compiler writes out a loop of so few, and so keeps the working variables in registers:
+// one loop of all 64 is slower.
 fn chunk_of_rounds(v: [u32; 8], step: (&[u32; CHUNK], &[u32; CHUNK])) -> [u32; 8]
     ensures answers { result ≡ fold (λ v step. round step.0 step.1 v) v (zip step.entry.0.now step.entry.1.now) }
 {
