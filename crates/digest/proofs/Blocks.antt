@@ -1,10 +1,12 @@
 -- The blocks of a message that comes in parts.
-use Rattle.std.proofs.Common.{◌≡◌, ℕ, zero, suc, ◌+◌, ◌*◌, ◌/◌, ◌<◌, ◌≤◌, List, [], ◌∷◌, ◌++◌, map, length, take, drop, fold, sym, refl, ap, ◌∙◌, add-zero, zero-add, arith, length-append, length-drop, take-append-drop, length-take, drop-drop}
+use Rattle.std.proofs.Common.{◌≡◌, ℕ, zero, suc, ◌+◌, ◌*◌, ◌/◌, ◌<◌, ◌≤◌, [], ◌∷◌, ◌++◌, map, length, take, drop, fold, sym, refl, ap, ◌∙◌, add-zero, zero-add, arith, length-append, length-drop, take-append-drop, length-take, drop-drop}
 use lib.Seq.{drop-append-le, take-append-le, drop-append-add}
 use Rattle.std.specs.List.{range_with_len}
 use Rattle.std.specs.Simd.{first_chunks}
 use Rattle.std.proofs.lemmas.List.FromFn.{fill_by_all, length-map-range_with_len, get_or-map-range_with_len, map-range_with_len_more}
 use Rattle.std.proofs.lemmas.List.{append_assoc, append-nil}
+use Rattle.std.proofs.lemmas.List.Folds.{fold-map}
+use Rattle.std.proofs.lemmas.List.Sums.{fold-append}
 use Rattle.digest.specs.Bytes.{Bytes}
 use Rattle.digest.specs.Words.{Words}
 use Rattle.digest.specs.Sha256.{words, block, parsed, compressed}
@@ -63,11 +65,6 @@ parsed_short r lt =
     let k : length r / 64 ≡ 0 = omega arith in
     ap (λ k. map (λ i. words (block r i)) (range_with_len 0 k)) k
 
--- a list folded through a function of its items
-folded_map : {A B C : Type 0} (f : B → C → B) (g : A → C) (v : B) (xs : List A) → fold (λ u x. f u (g x)) v xs ≡ fold f v (map g xs)
-folded_map f g v [] = refl
-folded_map f g v (x ∷ xs) = folded_map f g (f v (g x)) xs
-
 -- the blocks from the a-th on are the chunks of 64 bytes
 chunks_from : (n a : ℕ) (bytes : Bytes) → map words (first_chunks 64 n (drop (64 * a) bytes)) ≡ map (λ i. words (block bytes i)) (range_with_len a n)
 unfolding block
@@ -80,12 +77,8 @@ chunks_from (suc n) a bytes =
 pub absorbed : (value : Words) (bytes : Bytes) → fold (λ v b. compressed v (words b)) value (first_chunks 64 (length bytes / 64) bytes) ≡ fold compressed value (parsed bytes)
 unfolding parsed
 absorbed value bytes =
-    folded_map compressed words value (first_chunks 64 (length bytes / 64) bytes)
+    sym (fold-map compressed words value (first_chunks 64 (length bytes / 64) bytes))
     ∙ ap (fold compressed value) (chunks_from (length bytes / 64) 0 bytes)
-
-folded_append : {A B : Type 0} (f : B → A → B) (v : B) (xs ys : List A) → fold f v (xs ++ ys) ≡ fold f (fold f v xs) ys
-folded_append f v [] ys = refl
-folded_append f v (x ∷ xs) ys = folded_append f (f v x) xs ys
 
 -- a message and its padding: the message's whole blocks, then the blocks of what is left and the padding
 pub in_two : (value : Words) (m p : Bytes) (whole : ℕ) → whole ≡ length m / 64 * 64
@@ -101,4 +94,4 @@ in_two value m p whole e =
     let all : parsed (m ++ p) ≡ parsed m ++ parsed (r ++ p) =
     ap (λ x. parsed (x ++ p)) (sym cut) ∙ ap parsed (append_assoc a r p) ∙ parsed-append a (r ++ p) (length m / 64) la
     ∙ ap (λ xs. xs ++ parsed (r ++ p)) (sym front) in
-    ap (fold compressed value) all ∙ folded_append compressed value (parsed m) (parsed (r ++ p))
+    ap (fold compressed value) all ∙ fold-append compressed value (parsed m) (parsed (r ++ p))

@@ -1,4 +1,5 @@
 pub mod Blocks
+pub mod Folded
 pub mod Listed
 pub mod Sizes
 pub mod Tags

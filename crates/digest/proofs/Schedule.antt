@@ -1,7 +1,8 @@
 -- The message schedule, made word by word, and the rounds with the constants beside its words.
-use Rattle.std.proofs.Common.{◌≡◌, ℕ, zero, suc, ◌+◌, ◌-◌, ◌<◌, ◌≤◌, [], ◌∷◌, ◌++◌, length, get_or, take, set, fold, sym, refl, ap, ◌∙◌, arith, length-take-le}
+use Rattle.std.proofs.Common.{◌≡◌, ℕ, zero, suc, ◌+◌, ◌-◌, ◌*◌, ◌<◌, ◌≤◌, List, [], ◌∷◌, ◌++◌, length, get_or, take, drop, set, fold, sym, refl, ap, ◌∙◌, arith, length-take-le, length-drop}
 use Rattle.std.specs.List.{zip}
-use Rattle.std.proofs.lemmas.List.Sums.{fold_push}
+use Rattle.std.specs.Simd.{first_chunks}
+use Rattle.std.proofs.lemmas.List.Sums.{fold_push, fold-append}
 use Rattle.std.proofs.lemmas.Slice.Zip.{length-zip, get_or-zip}
 use Rattle.std.proofs.lemmas.List.{get_or-take, take_more_set, take_more, take_all}
 use Rattle.digest.specs.Words.{Words, ◌⊞◌, σ0, σ1}
@@ -48,3 +49,25 @@ pub all_zipped : (w value : Words) → length w ≡ 64 → fold (λ v step. roun
 all_zipped w value e =
     let whole : length (zip K w) ≤ 64 = simp length-zip (omega arith) in
     ap (fold (λ v step. round step.0 step.1 v) value) (sym (take_all 64 (zip K w) whole)) ∙ rounds_zipped K w value 64 refl e (omega arith)
+
+zip-nil : {A B : Type 0} (xs : List A) → zip {X = B} xs [] ≡ []
+zip-nil [] = refl
+zip-nil (x ∷ xs) = refl
+
+-- two lists side by side, cut at one place
+zip_cut : {A B : Type 0} (n : ℕ) (xs : List A) (ys : List B) → zip xs ys ≡ zip (take n xs) (take n ys) ++ zip (drop n xs) (drop n ys)
+zip_cut zero xs ys = refl
+zip_cut (suc n) [] ys = refl
+zip_cut (suc n) (x ∷ xs) [] = sym (zip-nil (drop n xs))
+zip_cut (suc n) (x ∷ xs) (y ∷ ys) = ap (λ ps. (x, y) ∷ ps) (zip_cut n xs ys)
+
+-- a fold chunk by chunk over two lists side by side
+pub by_chunks : {A B C : Type 0} (f : C → A × B → C) (v : C) (n : ℕ) (xs : List A) (ys : List B) → length xs ≡ 8 * n
+    → fold (λ v p. fold f v (zip p.0 p.1)) v (zip (first_chunks 8 n xs) (first_chunks 8 n ys)) ≡ fold f v (zip xs ys)
+by_chunks f v zero [] ys e = refl
+by_chunks f v zero (x ∷ xs) ys e = absurd (omega arith)
+by_chunks f v (suc n) xs ys e =
+    let left : length (drop 8 xs) ≡ 8 * n = simp length-drop (omega arith) in
+    by_chunks f (fold f v (zip (take 8 xs) (take 8 ys))) n (drop 8 xs) (drop 8 ys) left
+    ∙ sym (fold-append f v (zip (take 8 xs) (take 8 ys)) (zip (drop 8 xs) (drop 8 ys)))
+    ∙ ap (fold f v) (sym (zip_cut 8 xs ys))

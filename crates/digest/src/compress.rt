@@ -10,6 +10,9 @@ use std::array;
 
 const ROUNDS: usize = 64;
 
+// The rounds in one chunk.
+const CHUNK: usize = 8;
+
 const ROUND_CONSTANTS: [u32; ROUNDS] = [
     0x428a_2f98,
     0x7137_4491,
@@ -107,11 +110,22 @@ fn message_schedule(block: [u32; 16]) -> [u32; ROUNDS]
     w
 }
 
+// A chunk of the rounds. The compiler writes out a loop of so few, and so keeps the working variables in registers:
+// one loop of all 64 is slower.
+fn chunk_of_rounds(v: [u32; 8], step: (&[u32; CHUNK], &[u32; CHUNK])) -> [u32; 8]
+    ensures answers { result ≡ fold (λ v step. round step.0 step.1 v) v (zip step.entry.0.now step.entry.1.now) }
+{
+    let (constants, words) = step;
+    constants.iter().zip(words).fold(v, one_round)
+}
+
 // The 64 rounds, each with its constant and its word of the schedule.
 fn all_rounds(value: [u32; 8], schedule: &[u32; ROUNDS]) -> [u32; 8]
     ensures answers { result ≡ rounds 64 schedule.now value }
 {
-    ROUND_CONSTANTS.iter().zip(schedule).fold(value, one_round)
+    let (constants, _) = ROUND_CONSTANTS.as_chunks();
+    let (words, _) = schedule.as_chunks();
+    constants.iter().zip(words).fold(value, chunk_of_rounds)
 }
 
 // Each working variable added to the one before the rounds.

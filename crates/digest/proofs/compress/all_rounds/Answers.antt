@@ -1,23 +1,20 @@
-use Rattle.std.proofs.Common.{◌≡◌, ℕ, fold, refl, sym, ap, ◌∙◌, rules}
+use Rattle.std.proofs.Common.{◌≡◌, ℕ, ◌/◌, length, fold, refl, ap, ◌∙◌, arith, rules}
 use Rattle.std.specs.List.{zip}
-use Rattle.std.proofs.lemmas.Fn.{fold_over, fronts}
-use Rattle.std.proofs.lemmas.Iterator.{YieldsList-from_slice, YieldsList-from_zip, zips}
-use Rattle.std.proofs.lemmas.List.Sums.{fold_push}
+use Rattle.std.specs.Simd.{first_chunks}
 use Rattle.digest.specs.Constants.{K}
 use Rattle.digest.specs.Sha256.{round}
 use Rattle.digest.specs.Words.{Words}
-use Rattle.digest.proofs.Schedule.{all_zipped}
+use Rattle.digest.proofs.Folded.{folded_pairs}
+use Rattle.digest.proofs.Schedule.{all_zipped, by_chunks}
 use Rattle.digest.proofs.compress.all_rounds.Goals as goal
 
 pub returns : goal.returns
 returns c =
     let g : Words → ℕ × ℕ → Words = λ v step. round step.0 step.1 v in
-    let first : c.zip.result.a.rest.now ≡ K = cc in
-    let second : c.zip.result.b.rest.now ≡ c.args.schedule.now = cc in
-    let steps = YieldsList-from_zip {s = c.zip.result} (YieldsList-from_slice K first) (YieldsList-from_slice c.args.schedule.now second) in
-    let folded : c.fold.result ≡ fold g c.args.value (zip K c.args.schedule.now) =
-    fold_over (zips fronts fronts) (λ p. (p.0.now, p.1.now)) _ (λ ys v. v ≡ fold g c.args.value ys) _
-    (λ ys a x b f' j k. let one : b ≡ g a (x.0.now, x.1.now) = search rules in
-    (one ∙ ap (λ v. g v (x.0.now, x.1.now)) j ∙ sym (fold_push g c.args.value ys (x.0.now, x.1.now)), refl))
-    c.zip.result (zip K c.args.schedule.now) _ _ steps.runs refl c.fold.ensures.ran in
-    record { answers = folded ∙ all_zipped c.args.schedule.now c.args.value c.told-schedule }
+    let chunk : Words → Words × Words → Words = λ v step. fold g v (zip step.0 step.1) in
+    let ws : Words = c.args.schedule.now in
+    let many : length ws / 8 ≡ 8 = omega arith in
+    let chunks = c.as_chunks-2.ensures.front ∙ ap (λ n. first_chunks 8 n ws) many in
+    let folded = folded_pairs chunk _ _ (λ a x b f' k. (search rules, refl))
+    c.zip.result (first_chunks 8 8 K) (first_chunks 8 8 ws) (cc) (cc) _ _ c.fold.ensures.ran in
+    record { answers = folded ∙ by_chunks g c.args.value 8 K ws refl ∙ all_zipped ws c.args.value c.told-schedule }
