@@ -94,6 +94,7 @@ impl<F: Format> Bank for AreaBank<'_, F> {
         if counter > 15 {
             return Err(BankFault::NoCounter(counter));
         }
+        // An area that cannot be used means sixteen zeros, under the limit 0.
         let Some(size) = self.size else {
             return Ok(0);
         };

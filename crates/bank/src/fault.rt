@@ -2,6 +2,7 @@
 ghost use Rattle.std.specs.Prelude.{◌≡◌, Some};
 ghost use Rattle.bank.specs.Faults.{number_of, place_of, finder_of, shown_of};
 
+use std::error::Error;
 use std::fmt;
 
 /// Why a bank did not do what it was asked.
@@ -50,6 +51,7 @@ impl BankFault {
     }
 }
 
+// Each part words its own refusals: digest and bank stand on nothing, so no crate below them could say it once.
 impl fmt::Display for BankFault {
     ghost output = { λ x. Some (shown_of x) };
 
@@ -60,3 +62,5 @@ impl fmt::Display for BankFault {
         write!(f, "refused {number} by {finder} at {place}")
     }
 }
+
+impl Error for BankFault {}

@@ -3,6 +3,8 @@ ghost use Rattle.std.specs.Prelude.{◌≡◌, ℕ, ◌<◌, ◌≤◌, true, Li
 ghost use Rattle.bank.specs.Format.{Format, Sixteen, Holds, size_in};
 
 /// Sixteen parts of one size, a number in each.
+// A part is a plain slice of the lent area, and its size a premise of three calls: a type that knows it would be made anew
+// for each number that is read.
 pub(crate) trait Format {
     /// The most bytes of a part. It differs from format to format.
     const LONGEST: usize;

@@ -95,7 +95,8 @@ fn one_round(v: [u32; 8], step: (&u32, &u32)) -> [u32; 8]
     [t1.wrapping_add(t2), a, b, c, d.wrapping_add(t1), e, f, g]
 }
 
-// The message schedule: a block's words, then each word from the 2nd, 7th, 15th and 16th before it.
+// The message schedule: a block's words, then each word from the 2nd, 7th, 15th and 16th before it. By index, as in the
+// standard: each word is made of four at set places before it.
 fn message_schedule(block: [u32; 16]) -> [u32; ROUNDS]
     ensures answers { result ≡ schedule block }
 {

@@ -2,6 +2,7 @@
 ghost use Rattle.std.specs.Prelude.{◌≡◌, Some};
 ghost use Rattle.digest.specs.Faults.{number_of, place_of, finder_of, shown_of};
 
+use std::error::Error;
 use std::fmt;
 
 /// Why a digest or a tag is refused.
@@ -44,6 +45,7 @@ impl DigestFault {
     }
 }
 
+// Each part words its own refusals: digest and bank stand on nothing, so no crate below them could say it once.
 impl fmt::Display for DigestFault {
     ghost output = { λ fault. Some (shown_of fault) };
 
@@ -54,3 +56,5 @@ impl fmt::Display for DigestFault {
         write!(f, "refused {number} by {finder} at {place}")
     }
 }
+
+impl Error for DigestFault {}

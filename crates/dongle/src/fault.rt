@@ -4,6 +4,7 @@ ghost use Rattle.dongle.specs.declared.fault.DongleFault.TheVariants.{Bank};
 ghost use Rattle.dongle.specs.Faults.{number_of, place_of, finder_of, shown_of};
 
 use bank::BankFault;
+use std::error::Error;
 use std::fmt;
 
 /// Why a dongle did not do what it was asked.
@@ -55,6 +56,7 @@ impl From<BankFault> for DongleFault {
     }
 }
 
+// Each part words its own refusals: digest and bank stand on nothing, so no crate below them could say it once.
 impl fmt::Display for DongleFault {
     ghost output = { λ fault. Some (shown_of fault) };
 
@@ -65,3 +67,5 @@ impl fmt::Display for DongleFault {
         write!(f, "refused {number} by {finder} at {place}")
     }
 }
+
+impl Error for DongleFault {}

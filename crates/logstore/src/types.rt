@@ -1,7 +1,7 @@
 // The log store and what holds of it.
 ghost use Rattle.logstore.specs.Log.{SoundLog};
 
-/// How far the records of a log reach, and how many they are.
+/// How far the records of a log reach, and how many they are: counted beside the area, which is the caller's.
 #[derive(Clone, Copy)]
 pub(crate) struct Extent {
     pub(crate) used: usize,

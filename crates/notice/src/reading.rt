@@ -65,7 +65,7 @@ impl<'a> Record<'a> {
         self.byte_at(COUNTER_AT)
     }
 
-    /// The queue whose high counter the record is of.
+    /// The queue whose high counter the record is of: queue q has the counters 2 q, the low one, and 2 q + 1, the high one.
     #[tactic(auto, unfolding(crate::specs::Record::queue_of))]
     pub fn queue(&self) -> u8
         ensures answers { result ≡ queue_of self.now }

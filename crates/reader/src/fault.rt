@@ -2,6 +2,7 @@
 ghost use Rattle.std.specs.Prelude.{◌≡◌, Some};
 ghost use Rattle.reader.specs.Faults.{number_of, place_of, finder_of, shown_of};
 
+use std::error::Error;
 use std::fmt;
 
 #[derive(Clone, Copy, PartialEq, Eq, Debug)]
@@ -70,6 +71,7 @@ impl ReaderFault {
     }
 }
 
+// Each part words its own refusals: digest and bank stand on nothing, so no crate below them could say it once.
 impl fmt::Display for ReaderFault {
     ghost output = { λ fault. Some (shown_of fault) };
 
@@ -80,3 +82,5 @@ impl fmt::Display for ReaderFault {
         write!(f, "refused {number} by {finder} at {place}")
     }
 }
+
+impl Error for ReaderFault {}

@@ -16,7 +16,7 @@ pub enum Asked {
 }
 
 /// What a challenge asks, with the nonce that tells its answers from those to others.
-#[derive(Clone, Copy)]
+#[derive(Clone, Copy, Debug, PartialEq, Eq)]
 pub struct Question {
     pub queue: u8,
     pub asked: Asked,
@@ -31,7 +31,7 @@ pub struct Challenge {
 
 /// What an accepted answer says. Its numbers are plain, 0 where there is none, as the rules tell them: a rule of the
 /// project, so that an entry point in C's form can promise the same.
-#[derive(Clone, Copy)]
+#[derive(Clone, Copy, Debug, PartialEq, Eq)]
 pub struct Verdict {
     pub kind: Kind,
     /// The position asked for; of an end the high number.

@@ -4,6 +4,7 @@ ghost use Rattle.slotstore.specs.Rows.{row_of, row_span};
 
 use notice::{Record, Span};
 
+// Plain fields, and not a `Span`: they are what the lender reads.
 /// What a slot holds: a record of the high counter of `queue` that spans the positions `old + 1` to `new` and is `length`
 /// bytes long. The row of a free slot is all zero.
 #[derive(Clone, Copy, Debug, Default, PartialEq, Eq)]

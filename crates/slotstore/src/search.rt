@@ -22,6 +22,7 @@ pub(crate) fn first_below(rows: &[Row], queue: u8, below: u32) -> Option<usize>
         .position(|row| !row.span().is_kept(queue, below))
 }
 
+// Over rows and their number in use, so that one search can serve other rows too.
 // Whether one of the first rows is of the span's lane and shares a position with it.
 pub(crate) fn is_spanned(rows: &[Row], used: usize, span: &Span) -> bool
     requires within { used ≤ length rows.now }

@@ -14,6 +14,7 @@ use store::{Store, StoreFault, admit};
 pub struct SlotStore<'a> {
     area: &'a mut [u8],
     rows: &'a mut [Row],
+    // Counted beside the slots, since the memory is the caller's.
     used: usize,
     ghost sound: { SoundSlots area.now rows.now (slot_space (length area.now) (length rows.now)) used },
 }
@@ -188,6 +189,7 @@ impl<'a> Store for SlotStore<'a> {
         ensures order { slot_held self.new ≡ swept (length (slot_held self.old)) (stays queue below) (slot_held self.old) }
         ensures slots { Kept self.old self.new }
     {
+        // The slot that the last record was moved to is tried next: an iterator would borrow the rows that the loop moves.
         let mut from = 0;
         while let Some(index) = self.next_below(from, queue, below) {
             self.vacate(index);

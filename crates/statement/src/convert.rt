@@ -5,6 +5,7 @@ ghost use Rattle.statement.specs.Layout.{IsEncoding, IsDecoding, encoded, decode
 use super::area::put;
 use super::types::{SIGNED_STATEMENT_SIZE, STATEMENT_SIZE, SignedStatement, Statement};
 
+// By `put`: what five parts of one array, each written in turn, leave of it gets no proof.
 impl From<Statement> for [u8; STATEMENT_SIZE] {
     ghost from_gives = { λ statement bytes. IsEncoding encoded decoded Sized statement bytes };
 

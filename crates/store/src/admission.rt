@@ -8,6 +8,7 @@ use notice::Record;
 /// Whether a store takes a record, of which it says whether one of its positions is spanned and whether it fits. It is
 /// refused, in this order, where it is no record of the high counter of a queue, is spanned, or does not fit. What the
 /// store says of bytes that are no record plays no part.
+// Two answers and not two closures: a public call that runs what it is handed would require that it may be called.
 pub fn admit(record: &Record, is_spanned: bool, fits: bool) -> Result<(), StoreFault>
     ensures answers { result ≡ admitting is_spanned fits «record».now }
 {

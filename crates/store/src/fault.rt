@@ -2,6 +2,7 @@
 ghost use Rattle.std.specs.Prelude.{◌≡◌, Some};
 ghost use Rattle.store.specs.Faults.{number_of, place_of, finder_of, shown_of};
 
+use std::error::Error;
 use std::fmt;
 
 /// Why a store did not do what it was asked.
@@ -52,6 +53,7 @@ impl StoreFault {
     }
 }
 
+// Each part words its own refusals: digest and bank stand on nothing, so no crate below them could say it once.
 impl fmt::Display for StoreFault {
     ghost output = { λ x. Some (shown_of x) };
 
@@ -62,3 +64,5 @@ impl fmt::Display for StoreFault {
         write!(f, "refused {number} by {finder} at {place}")
     }
 }
+
+impl Error for StoreFault {}

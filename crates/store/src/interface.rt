@@ -29,6 +29,7 @@ pub trait Store {
         ensures answers { result ≡ length (held self.now) };
 
     /// Copies the record that spans the position to the front of the area and tells its length, or tells none.
+    // Two plain numbers, as in `forget`: a pair would be built only to be taken apart.
     fn cover(&self, queue: u8, position: u32, area: &mut [u8]) -> Result<Option<usize>, StoreFault>
         ensures answers { result ≡ covering (held self.now) queue position area.old }
         ensures area { area.new ≡ covered (held self.now) queue position area.old };
