@@ -11,25 +11,21 @@ use std::alloc::Global;
 pub const MOST_BYTES: u32 = 70000;
 
 /// The value of a hex digit.
-fn hex_digit(c: u8) -> Option<u8>
+fn hex_digit(c: u8) -> Option<u32>
     ensures answers { result ≡ hex_value c }
 {
-    match c {
-        b'0'..=b'9' => Some(c - b'0'),
-        b'A'..=b'F' => Some(c - b'A' + 10),
-        b'a'..=b'f' => Some(c - b'a' + 10),
-        _ => None,
-    }
+    char::from(c).to_digit(16)
 }
 
 /// The bytes that an even row of hex digits says.
 fn hex_bytes(digits: &[u8], heap: Global) -> Result<Vec<u8>, Stop> {
     let mut bytes = Vec::new(heap);
-    for pair in digits.chunks_exact(2) {
-        let (Some(high), Some(low)) = (hex_digit(pair[0]), hex_digit(pair[1])) else {
+    let (pairs, _) = digits.as_chunks::<2>();
+    for [high, low] in pairs {
+        let (Some(high), Some(low)) = (hex_digit(*high), hex_digit(*low)) else {
             return Err(Stop::Line(Bad::Bytes));
         };
-        bytes.push(16 * high + low)?;
+        bytes.push((16 * high + low) as u8)?;
     }
     Ok(bytes)
 }
