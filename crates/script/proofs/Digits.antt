@@ -1,5 +1,5 @@
 -- Bytes in hex, as `format!` writes them.
-use Rattle.std.proofs.Common.{◌≡◌, ℕ, zero, suc, ◌-◌, ◌<◌, ◌^◌, false, List, [], refl, ap}
+use Rattle.std.proofs.Common.{◌≡◌, ℕ, zero, suc, ◌-◌, ◌<◌, ◌^◌, false, [], refl, ap}
 use Rattle.std.specs.Prelude.{◌++◌}
 use Rattle.std.specs.Fmt.{digits, padded_integral, format_spec}
 use Rattle.std.specs.List.{repeat}

@@ -1,5 +1,5 @@
 -- The first run of a byte string.
-use Rattle.std.proofs.Common.{◌≡◌, ℕ, zero, suc, ◌+◌, ◌-◌, ◌<◌, ◌≤◌, Bool, true, false, List, [], ◌∷◌, ◌++◌, length, get_or, drop, sym, refl, ap, ◌∙◌, subst, ⊎_elim, append_assoc, one-add, add-one, arith, length-append}
+use Rattle.std.proofs.Common.{◌≡◌, ℕ, zero, suc, ◌+◌, ◌-◌, ◌<◌, ◌≤◌, true, false, List, [], ◌∷◌, ◌++◌, length, get_or, drop, sym, refl, ap, ◌∙◌, subst, ⊎_elim, append_assoc, one-add, add-one, arith, length-append}
 use Rattle.std.specs.Prelude.{◌==◌}
 use Rattle.std.specs.List.{AllAdjacentBelow, IsChunkByPrefix}
 use Rattle.std.proofs.lemmas.Bool.{eq-eqb, eqb-true, eqb-false, ne_eqb, cases_eq, cond-true, cond-false}
@@ -7,8 +7,7 @@ use Rattle.std.proofs.lemmas.List.Sums.{prefix_len_is}
 use Rattle.std.proofs.Math.Seq.{drop-append_seam}
 use Rattle.script.specs.Words.{run_len}
 use Rattle.script.specs.declared.show.Before.{Before}
-use Rattle.script.specs.declared.show.Before.TheVariants.{Nothing}
-use Rattle.script.specs.Shown.{Stretch, stretch, stretches, lengthened, shown, shown_from, separator, counted, run_text, next_before}
+use Rattle.script.specs.Shown.{Stretch, stretch, stretches, lengthened, shown_from, separator, counted, run_text, next_before}
 
 -- one byte more in front of runs that begin with the same byte, or with another
 again : (x n : ℕ) (gs : List Stretch) →
@@ -61,27 +60,6 @@ first-stretch x (y ∷ ys) =
     (λ ne. first_other x y ys ne (first-stretch y ys))
     (cases_eq x y)
 
--- what is printed of bytes that are left: the first run, and what is printed of the rest
-pub shown_more : (before : Before) (rest : List ℕ) (n : ℕ) → 0 < length rest →
-    n ≡ run_len (get_or rest 0 0) (drop 1 rest) →
-    shown_from before (stretches rest)
-    ≡ separator before (counted (1 + n))
-    ++ (run_text (get_or rest 0 0) (1 + n) ++ shown_from (next_before (1 + n)) (stretches (drop (1 + n) rest)))
-shown_more before [] n h e = absurd (omega arith)
-shown_more before (x ∷ xs) n h e =
-    let whole = ap (shown_from before) (first-stretch x xs) in
-    let text =
-    ap
-    (λ k.
-    separator before (counted (1 + k))
-    ++ (run_text x (1 + k) ++ shown_from (next_before (1 + k)) (stretches (drop k xs))))
-    (sym e) in
-    let left =
-    ap
-    (λ k. separator before (counted (1 + n)) ++ (run_text x (1 + n) ++ shown_from (next_before (1 + n)) (stretches (drop k (x ∷ xs)))))
-    (sym (one-add n)) in
-    whole ∙ text ∙ left
-
 -- where each byte equals the next one, all of them equal the first
 all_first : (bytes : List ℕ) (n : ℕ) → AllAdjacentBelow (λ b c. b == c ≡ true) bytes n → (k : ℕ) → k < n → get_or bytes k 0 ≡ get_or bytes 0 0
 all_first bytes n same zero h = refl
@@ -122,8 +100,3 @@ shown_part before bytes (x ∷ part) rest e h front =
 -- two texts laid one after the other, before what is still to come
 pub laid : (o one two s t u w : List ℕ) → one ≡ o ++ s → two ≡ one ++ t → w ≡ s ++ (t ++ u) → two ++ u ≡ o ++ w
 laid o one two s t u w e f g = rw (f, e, g) (simp append_assoc)
-
--- where there are bytes, they are printed as their runs
-pub shown_some : (bytes : List ℕ) → (length bytes ≡ 0 → ⊥) → shown_from Nothing (stretches bytes) ≡ shown bytes
-shown_some [] h = absurd (h refl)
-shown_some (x ∷ xs) h = refl

@@ -36,9 +36,10 @@ fn repeats(tail: &[u8]) -> Result<u32, Bad> {
         return Ok(1);
     };
     match number(count, MOST_BYTES) {
+        Ok(times) => Ok(times),
         Err(Bad::Range) => Err(Bad::TooMany),
+        // The only other fault of `number` is `Number`: a list of the cases that never come is no plainer.
         Err(_) => Err(Bad::Bytes),
-        times => times,
     }
 }
 

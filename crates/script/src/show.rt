@@ -26,12 +26,7 @@ pub fn show_number(out: &mut Vec<u8>, n: usize, heap: Global) -> Result<(), Allo
 
 /// Bytes that stand one by one.
 #[tactic(auto, using(crate::proofs::Digits::repeated_hex))]
-fn push_plain(
-    out: &mut Vec<u8>,
-    byte: u8,
-    times: usize,
-    heap: Global,
-) -> Result<(), AllocError>
+fn push_plain(out: &mut Vec<u8>, byte: u8, times: usize, heap: Global) -> Result<(), AllocError>
     ensures area { OnOk result (out.new.items ≡ out.old.items ++ plain byte times) }
 {
     let run = hex_text(byte, heap)?.repeat(heap, times)?;

@@ -1,4 +1,4 @@
-use Rattle.std.proofs.Common.{rules, tests, ◌≡◌, ◌++◌, length, get_or, vec_items, ap, ◌∙◌}
+use Rattle.std.proofs.Common.{rules, tests, ◌++◌, length, get_or, vec_items, ap, ◌∙◌}
 use Rattle.std.specs.Prelude.{◌==◌}
 use Rattle.std.specs.Slice.Iter.{chunk_by_rest}
 use Rattle.std.proofs.lemmas.Fn.{always_returns_same}
