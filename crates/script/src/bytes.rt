@@ -1,5 +1,5 @@
 // Byte strings of a script: `-`, or parts joined by `+`, each hex digits and perhaps `*` and a count.
-ghost use Rattle.std.specs.Prelude.{◌≡◌, ℕ, ◌≤◌, IfOk, vec_len, OnOk};
+ghost use Rattle.std.specs.Prelude.{◌≡◌, ◌≤◌, IfOk, vec_len, OnOk};
 ghost use Rattle.script.specs.Bytes.{hex_value, most_bytes};
 
 use crate::bad::{Bad, Stop};

@@ -1,5 +1,5 @@
 // Decimal numbers of a script.
-ghost use Rattle.std.specs.Prelude.{◌≡◌, ℕ, Bool};
+ghost use Rattle.std.specs.Prelude.{◌≡◌};
 ghost use Rattle.script.specs.Numbers.{all_digits, number_in};
 
 use crate::bad::Bad;
@@ -18,6 +18,7 @@ pub fn number(word: &[u8], most: u32) -> Result<u32, Bad>
     if !digits_only(word) {
         return Err(Bad::Number);
     }
+    // Digits are text, so this refuses nothing more.
     let Ok(digits) = str::from_utf8(word) else {
         return Err(Bad::Number);
     };

@@ -1,8 +1,7 @@
 // Byte strings as they are printed: `-` for none, a run of 4 or more equal bytes as `xx*N`, the rest as plain hex.
-ghost use Rattle.std.specs.Prelude.{◌≡◌, ℕ, ◌<◌, [], ◌∷◌, ◌++◌, IfOk, decimal, OnOk, string_bytes};
-ghost use Rattle.script.specs.Shown.{hex_char, hex, counted, separator, plain, run_text, next_before, shown};
+ghost use Rattle.std.specs.Prelude.{◌≡◌, ◌++◌, IfOk, decimal, OnOk, string_bytes};
+ghost use Rattle.script.specs.Shown.{hex, separator, plain, run_text, next_before, shown};
 
-use crate::runs::leading_run;
 use std::alloc::{AllocError, Global};
 
 /// From here on a run of equal bytes is printed with its length.
