@@ -1,7 +1,7 @@
 // The commands `digest` and `tag`.
 use crate::args::Arguments;
 use crate::page::Page;
-use digest::{DigestFault, digest, tag};
+use digest::{DIGEST_SIZE, DigestFault, digest, tag};
 use script::bad::Stop;
 use std::alloc::AllocError;
 
@@ -9,7 +9,7 @@ use std::alloc::AllocError;
 fn say_answer(
     page: &mut Page,
     label: &str,
-    answer: Result<[u8; 32], DigestFault>,
+    answer: Result<[u8; DIGEST_SIZE], DigestFault>,
 ) -> Result<(), AllocError> {
     match answer {
         Ok(bytes) => page.say_bytes(label, &bytes),

@@ -1,4 +1,5 @@
 // What the program prints: echoed lines, and indented lines about what came back.
+// It is printed once the script has ended, so that nothing is printed of one that runs out of memory.
 use script::bad::Stop;
 use script::show::show_bytes;
 use std::alloc::{AllocError, Global};

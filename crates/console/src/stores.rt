@@ -190,13 +190,7 @@ fn slot_command(line: &[u8], lines: &mut Lines, page: &mut Page) -> Result<(), S
     words.word()?;
     let mut area = words.bytes()?;
     let count = words.number(MOST_BYTES)?;
-    let blank = Row {
-        queue: 0,
-        old: 0,
-        new: 0,
-        length: 0,
-    };
-    let mut rows = vec![in page.heap(); blank; count as usize]?;
+    let mut rows = vec![in page.heap(); Row::default(); count as usize]?;
     run_slots(area.as_mut_slice(), rows.as_mut_slice(), lines, page)?;
     page.say_bytes("area", area.as_slice())?;
     say_rows(page, rows.as_slice())?;

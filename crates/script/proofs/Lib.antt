@@ -1,3 +1,4 @@
+pub mod Digits
 mod Numbers
 mod Parts
 mod Stretches

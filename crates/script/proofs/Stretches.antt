@@ -1,10 +1,13 @@
 -- The first run of a byte string.
-use Rattle.std.proofs.Common.{◌≡◌, ℕ, suc, ◌+◌, ◌<◌, List, [], ◌∷◌, ◌++◌, length, get_or, drop, sym, refl, ap, ◌∙◌, subst, ⊎_elim, append_assoc, one-add, arith}
-use Rattle.std.proofs.lemmas.Bool.{eq-eqb, ne_eqb, cases_eq, cond-true, cond-false}
+use Rattle.std.proofs.Common.{◌≡◌, ℕ, zero, suc, ◌+◌, ◌-◌, ◌<◌, ◌≤◌, true, false, List, [], ◌∷◌, ◌++◌, length, get_or, drop, sym, refl, ap, ◌∙◌, subst, ⊎_elim, append_assoc, one-add, add-one, arith, length-append}
+use Rattle.std.specs.Prelude.{◌==◌}
+use Rattle.std.specs.List.{AllAdjacentBelow, IsChunkByPrefix}
+use Rattle.std.proofs.lemmas.Bool.{eq-eqb, eqb-true, eqb-false, ne_eqb, cases_eq, cond-true, cond-false}
+use Rattle.std.proofs.lemmas.List.Sums.{prefix_len_is}
+use Rattle.std.proofs.Math.Seq.{drop-append_seam}
 use Rattle.script.specs.Words.{run_len}
 use Rattle.script.specs.declared.show.Before.{Before}
-use Rattle.script.specs.declared.show.Before.TheVariants.{Nothing}
-use Rattle.script.specs.Shown.{Stretch, stretch, stretches, lengthened, shown, shown_from, separator, counted, run_text, next_before}
+use Rattle.script.specs.Shown.{Stretch, stretch, stretches, lengthened, shown_from, separator, counted, run_text, next_before}
 
 -- one byte more in front of runs that begin with the same byte, or with another
 again : (x n : ℕ) (gs : List Stretch) →
@@ -57,32 +60,43 @@ first-stretch x (y ∷ ys) =
     (λ ne. first_other x y ys ne (first-stretch y ys))
     (cases_eq x y)
 
--- what is printed of bytes that are left: the first run, and what is printed of the rest
-pub shown_more : (before : Before) (rest : List ℕ) (n : ℕ) → 0 < length rest →
-    n ≡ run_len (get_or rest 0 0) (drop 1 rest) →
-    shown_from before (stretches rest)
-    ≡ separator before (counted (1 + n))
-    ++ (run_text (get_or rest 0 0) (1 + n) ++ shown_from (next_before (1 + n)) (stretches (drop (1 + n) rest)))
-shown_more before [] n h e = absurd (omega arith)
-shown_more before (x ∷ xs) n h e =
-    let whole = ap (shown_from before) (first-stretch x xs) in
-    let text =
-    ap
-    (λ k.
-    separator before (counted (1 + k))
-    ++ (run_text x (1 + k) ++ shown_from (next_before (1 + k)) (stretches (drop k xs))))
-    (sym e) in
-    let left =
-    ap
-    (λ k. separator before (counted (1 + n)) ++ (run_text x (1 + n) ++ shown_from (next_before (1 + n)) (stretches (drop k (x ∷ xs)))))
-    (sym (one-add n)) in
-    whole ∙ text ∙ left
+-- where each byte equals the next one, all of them equal the first
+all_first : (bytes : List ℕ) (n : ℕ) → AllAdjacentBelow (λ b c. b == c ≡ true) bytes n → (k : ℕ) → k < n → get_or bytes k 0 ≡ get_or bytes 0 0
+all_first bytes n same zero h = refl
+all_first bytes n same (suc k) h =
+    let next = eqb-true (get_or bytes k 0) (get_or bytes (k + 1) 0) (same k 0 (omega arith)) in
+    ap (λ i. get_or bytes i 0) (sym (add-one k)) ∙ sym next ∙ all_first bytes n same k (omega arith)
+
+-- the longest front in which each byte equals the next one is a run
+front_run : (x : ℕ) (xs : List ℕ) (n : ℕ) → n ≤ length xs → AllAdjacentBelow (λ b c. b == c ≡ true) (x ∷ xs) (suc n)
+    → (n < length xs → get_or (x ∷ xs) n 0 == get_or xs n 0 ≡ false) → n ≡ run_len x xs
+front_run x xs n m same stops =
+    let first : (k : ℕ) → k < suc n → get_or (x ∷ xs) k 0 ≡ x = all_first (x ∷ xs) (suc n) same in
+    sym
+    (prefix_len_is (λ c. c == x) xs n 0 m (λ k h. eq-eqb (get_or xs k 0) x (first (suc k) (omega arith))) (λ h.
+    ne_eqb (get_or xs n 0) x (λ e. eqb-false (get_or (x ∷ xs) n 0) (get_or xs n 0) (stops h) (first n (omega arith) ∙ sym e))))
+
+-- what is printed of bytes that begin with such a front
+pub shown_part : (before : Before) (bytes part rest : List ℕ) → bytes ≡ part ++ rest → 0 < length part → IsChunkByPrefix (λ b c. b == c) bytes (length part)
+    → shown_from before (stretches bytes)
+    ≡ separator before (counted (length part))
+    ++ (run_text (get_or part 0 0) (length part) ++ shown_from (next_before (length part)) (stretches rest))
+shown_part before bytes [] rest e h front = absurd (omega arith)
+shown_part before bytes (x ∷ part) rest e h front =
+    let n = length part in
+    let xs = part ++ rest in
+    let whole : IsChunkByPrefix (λ b c. b == c) (x ∷ xs) (suc n) =
+    subst (λ all. IsChunkByPrefix (λ b c. b == c) all (suc n)) e front in
+    let fits : n ≤ length xs = omega (arith, length-append part rest) in
+    let stops : n < length xs → get_or (x ∷ xs) n 0 == get_or xs n 0 ≡ false =
+    λ l. let k : suc n - 1 ≡ n = omega arith in rw k at whole.1 (omega arith) 0 in
+    let run = front_run x xs n fits whole.0 stops in
+    let after : drop n xs ≡ rest = drop-append_seam part rest in
+    ap (shown_from before) (ap stretches e ∙ first-stretch x xs)
+    ∙ ap (λ k. separator before (counted (1 + k)) ++ (run_text x (1 + k) ++ shown_from (next_before (1 + k)) (stretches (drop k xs)))) (sym run)
+    ∙ ap (λ k. separator before (counted k) ++ (run_text x k ++ shown_from (next_before k) (stretches (drop n xs)))) (one-add n)
+    ∙ ap (λ left. separator before (counted (suc n)) ++ (run_text x (suc n) ++ shown_from (next_before (suc n)) (stretches left))) after
 
 -- two texts laid one after the other, before what is still to come
 pub laid : (o one two s t u w : List ℕ) → one ≡ o ++ s → two ≡ one ++ t → w ≡ s ++ (t ++ u) → two ++ u ≡ o ++ w
 laid o one two s t u w e f g = rw (f, e, g) (simp append_assoc)
-
--- where there are bytes, they are printed as their runs
-pub shown_some : (bytes : List ℕ) → (length bytes ≡ 0 → ⊥) → shown_from Nothing (stretches bytes) ≡ shown bytes
-shown_some [] h = absurd (h refl)
-shown_some (x ∷ xs) h = refl

@@ -1,5 +1,5 @@
 // Byte strings of a script: `-`, or parts joined by `+`, each hex digits and perhaps `*` and a count.
-ghost use Rattle.std.specs.Prelude.{◌≡◌, ℕ, ◌≤◌, IfOk, vec_len, OnOk};
+ghost use Rattle.std.specs.Prelude.{◌≡◌, ◌≤◌, IfOk, vec_len, OnOk};
 ghost use Rattle.script.specs.Bytes.{hex_value, most_bytes};
 
 use crate::bad::{Bad, Stop};
@@ -11,25 +11,21 @@ use std::alloc::Global;
 pub const MOST_BYTES: u32 = 70000;
 
 /// The value of a hex digit.
-fn hex_digit(c: u8) -> Option<u8>
+fn hex_digit(c: u8) -> Option<u32>
     ensures answers { result ≡ hex_value c }
 {
-    match c {
-        b'0'..=b'9' => Some(c - b'0'),
-        b'A'..=b'F' => Some(c - b'A' + 10),
-        b'a'..=b'f' => Some(c - b'a' + 10),
-        _ => None,
-    }
+    char::from(c).to_digit(16)
 }
 
 /// The bytes that an even row of hex digits says.
 fn hex_bytes(digits: &[u8], heap: Global) -> Result<Vec<u8>, Stop> {
     let mut bytes = Vec::new(heap);
-    for pair in digits.chunks_exact(2) {
-        let (Some(high), Some(low)) = (hex_digit(pair[0]), hex_digit(pair[1])) else {
+    let (pairs, _) = digits.as_chunks::<2>();
+    for [high, low] in pairs {
+        let (Some(high), Some(low)) = (hex_digit(*high), hex_digit(*low)) else {
             return Err(Stop::Line(Bad::Bytes));
         };
-        bytes.push(16 * high + low)?;
+        bytes.push((16 * high + low) as u8)?;
     }
     Ok(bytes)
 }
@@ -40,9 +36,10 @@ fn repeats(tail: &[u8]) -> Result<u32, Bad> {
         return Ok(1);
     };
     match number(count, MOST_BYTES) {
+        Ok(times) => Ok(times),
         Err(Bad::Range) => Err(Bad::TooMany),
+        // The only other fault of `number` is `Number`: a list of the cases that never come is no plainer.
         Err(_) => Err(Bad::Bytes),
-        times => times,
     }
 }
 

@@ -48,7 +48,7 @@ impl<'a> Iterator for Lines<'a> {
         while !self.rest.is_empty() {
             let (line, after) = split_line(self.rest);
             self.rest = after;
-            if !line.is_empty() && line[0] != b'#' {
+            if !line.is_empty() && !line.starts_with(b"#") {
                 return Some(line);
             }
         }

@@ -1,28 +1,18 @@
 // Byte strings as they are printed: `-` for none, a run of 4 or more equal bytes as `xx*N`, the rest as plain hex.
-ghost use Rattle.std.specs.Prelude.{◌≡◌, ℕ, ◌<◌, [], ◌∷◌, ◌++◌, IfOk, decimal, OnOk};
-ghost use Rattle.script.specs.Shown.{hex_char, hex, counted, separator, plain, run_text, next_before, shown};
+ghost use Rattle.std.specs.Prelude.{◌≡◌, ◌++◌, IfOk, decimal, OnOk, string_bytes};
+ghost use Rattle.script.specs.Shown.{hex, separator, plain, run_text, next_before, shown};
 
-use crate::runs::leading_run;
 use std::alloc::{AllocError, Global};
 
 /// From here on a run of equal bytes is printed with its length.
 const LONG_RUN: usize = 4;
 
-fn hex_digit_of(digit: u8) -> u8
-    requires { digit < 16 }
-    ensures answers { result ≡ hex_char digit }
+/// A byte in two small hex digits.
+#[tactic(auto, using(crate::proofs::Digits::hex_written))]
+fn hex_text(byte: u8, heap: Global) -> Result<String, AllocError>
+    ensures answers { IfOk result (λ text. string_bytes text ≡ hex byte) }
 {
-    if digit < 10 {
-        b'0' + digit
-    } else {
-        b'a' - 10 + digit
-    }
-}
-
-fn push_hex(out: &mut Vec<u8>, byte: u8) -> Result<(), AllocError>
-    ensures area { OnOk result (out.new.items ≡ out.old.items ++ hex byte) }
-{
-    out.extend_from_slice(&[hex_digit_of(byte / 16), hex_digit_of(byte % 16)])
+    format!(in heap; "{byte:02x}")
 }
 
 /// A number in decimal.
@@ -34,13 +24,12 @@ pub fn show_number(out: &mut Vec<u8>, n: usize, heap: Global) -> Result<(), Allo
 }
 
 /// Bytes that stand one by one.
-fn push_plain(out: &mut Vec<u8>, byte: u8, times: usize) -> Result<(), AllocError>
+#[tactic(auto, using(crate::proofs::Digits::repeated_hex))]
+fn push_plain(out: &mut Vec<u8>, byte: u8, times: usize, heap: Global) -> Result<(), AllocError>
     ensures area { OnOk result (out.new.items ≡ out.old.items ++ plain byte times) }
 {
-    for _i in 0..times {
-        push_hex(out, byte)?;
-    }
-    Ok(())
+    let run = hex_text(byte, heap)?.repeat(heap, times)?;
+    out.extend_from_slice(run.as_bytes())
 }
 
 /// What stood before a run: nothing, plain hex or a counted run.
@@ -66,10 +55,11 @@ fn push_run(out: &mut Vec<u8>, byte: u8, times: usize, heap: Global) -> Result<B
     ensures area { OnOk result (out.new.items ≡ out.old.items ++ run_text byte times) }
 {
     if times < LONG_RUN {
-        push_plain(out, byte, times)?;
+        push_plain(out, byte, times, heap)?;
         return Ok(Before::Plain);
     }
-    push_hex(out, byte)?;
+    let digits = hex_text(byte, heap)?;
+    out.extend_from_slice(digits.as_bytes())?;
     out.push(b'*')?;
     show_number(out, times, heap)?;
     Ok(Before::Run)
@@ -83,14 +73,10 @@ pub fn show_bytes(out: &mut Vec<u8>, bytes: &[u8], heap: Global) -> Result<(), A
         out.push(b'-')?;
         return Ok(());
     }
-    let mut rest = bytes;
     let mut before = Before::Nothing;
-    while !rest.is_empty() {
-        let byte = rest[0];
-        let times = 1 + leading_run(&rest[1..], byte);
-        push_separator(out, before, times >= LONG_RUN)?;
-        before = push_run(out, byte, times, heap)?;
-        rest = &rest[times..];
+    for run in bytes.chunk_by(|byte, next| byte == next) {
+        push_separator(out, before, run.len() >= LONG_RUN)?;
+        before = push_run(out, run[0], run.len(), heap)?;
     }
     Ok(())
 }

@@ -38,7 +38,7 @@ fn is_line_right(line: &[u8], heap: Global) -> Result<bool, Stop> {
 }
 
 /// A vector that cannot be read counts as wrong.
-fn judged(line: &[u8], heap: Global) -> Result<Outcome, AllocError> {
+fn outcome_of(line: &[u8], heap: Global) -> Result<Outcome, AllocError> {
     match is_line_right(line, heap) {
         Ok(true) => Ok(Outcome::Right),
         Ok(false) | Err(Stop::Line(_)) => Ok(Outcome::Wrong),
@@ -46,7 +46,7 @@ fn judged(line: &[u8], heap: Global) -> Result<Outcome, AllocError> {
     }
 }
 
-/// A line such as `right published digest abc`.
+/// A line such as `right published digest abc`, with an empty word for one that a vector lacks.
 fn say(page: &mut Vec<u8>, outcome: Outcome, line: &[u8]) -> Result<(), AllocError> {
     page.extend_from_slice(match outcome {
         Outcome::Right => b"right",
@@ -64,7 +64,7 @@ fn say(page: &mut Vec<u8>, outcome: Outcome, line: &[u8]) -> Result<(), AllocErr
 pub fn check_all(lines: Lines, page: &mut Vec<u8>, heap: Global) -> Result<(), AllocError> {
     let mut tally = Tally::default();
     for line in lines {
-        let outcome = judged(line, heap)?;
+        let outcome = outcome_of(line, heap)?;
         tally.count(outcome);
         say(page, outcome, line)?;
     }

@@ -1,7 +1,7 @@
 // One vector: what is asked, and the answer that it should have.
 ghost use Rattle.std.specs.Prelude.{◌≡◌, true, length, take};
 
-use digest::{digest, tag};
+use digest::{DIGEST_SIZE, WORKING_SIZE, digest, tag};
 use script::bad::{Bad, Stop};
 use script::bytes::read_bytes;
 use script::words::Words;
@@ -26,15 +26,15 @@ impl TryFrom<&[u8]> for VectorKind {
     }
 }
 
-/// Whether the expected bytes, all or the first 16 of them, are the answer's.
-fn agrees(answer: &[u8; 32], expected: &[u8]) -> bool
+/// Some published tags are cut to this many bytes.
+const CUT_SIZE: usize = 16;
+
+/// Whether the expected bytes are the whole answer, or its first `CUT_SIZE` bytes.
+fn agrees(answer: &[u8; DIGEST_SIZE], expected: &[u8]) -> bool
     ensures front { result ≡ true → expected.now ≡ take (length expected.now) answer.now }
 {
-    if expected.len() != 16 && expected.len() != 32 {
-        return false;
-    }
-    let front = &answer[0..expected.len()];
-    front == expected
+    let size = expected.len();
+    (size == CUT_SIZE || size == DIGEST_SIZE) && answer.starts_with(expected)
 }
 
 /// The bytes that the next word says.
@@ -53,7 +53,7 @@ pub fn is_right(kind: VectorKind, words: &mut Words, heap: Global) -> Result<boo
         VectorKind::Tag => {
             let key = next_bytes(words, heap)?;
             let message = next_bytes(words, heap)?;
-            let mut working = [0xff; 64];
+            let mut working = [0xff; WORKING_SIZE];
             tag(key.as_slice(), message.as_slice(), &mut working)
         }
     };
