@@ -50,8 +50,6 @@ impl<'a> Arguments<'a> {
     /// Bytes of a fixed size.
     pub fn array<const N: usize>(&mut self) -> Result<[u8; N], Stop> {
         let bytes = read_exactly(self.word()?, N, self.heap)?;
-        let mut array = [0; N];
-        array.copy_from_slice(bytes.as_slice());
-        Ok(array)
+        <[u8; N]>::try_from(bytes.as_slice()).map_err(|_| Stop::Line(Bad::Length))
     }
 }

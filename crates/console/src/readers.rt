@@ -64,7 +64,7 @@ pub fn asked(word: &[u8]) -> Result<Asked, Bad> {
     }
 }
 
-fn check_line(reader: Reader, line: &[u8], page: &mut Page) -> Result<(), Stop> {
+fn check_line(reader: &Reader, line: &[u8], page: &mut Page) -> Result<(), Stop> {
     let mut words = Arguments::new(line, 5, page.heap())?;
     let queue = words.byte()?;
     let what = asked(words.word()?)?;
@@ -90,7 +90,7 @@ fn say_verdict(page: &mut Page, verdict: Result<Verdict, ReaderFault>) -> Result
     }
 }
 
-fn give_up_line(reader: Reader, line: &[u8], page: &mut Page) -> Result<(), Stop> {
+fn give_up_line(reader: &Reader, line: &[u8], page: &mut Page) -> Result<(), Stop> {
     let mut words = Arguments::new(line, 3, page.heap())?;
     let queue = words.byte()?;
     let what = asked(words.word()?)?;
@@ -105,7 +105,7 @@ fn give_up_line(reader: Reader, line: &[u8], page: &mut Page) -> Result<(), Stop
     Ok(())
 }
 
-fn reader_line(reader: Reader, line: &[u8], page: &mut Page) -> Result<(), Stop> {
+fn reader_line(reader: &Reader, line: &[u8], page: &mut Page) -> Result<(), Stop> {
     match ReaderCommand::try_from(name(line))? {
         ReaderCommand::Check => check_line(reader, line, page),
         ReaderCommand::GiveUp => give_up_line(reader, line, page),
@@ -119,7 +119,7 @@ pub fn reader_command(line: &[u8], lines: &mut Lines, page: &mut Page) -> Result
     let identity = words.array()?;
     let key = words.array()?;
     let reader = Reader::new(identity, key);
-    run_block(lines, page, |line, page| reader_line(reader, line, page))?;
+    run_block(lines, page, |line, page| reader_line(&reader, line, page))?;
     page.say("closed")?;
     Ok(())
 }

@@ -51,6 +51,8 @@ fn run_command(line: &[u8], lines: &mut Lines, page: &mut Page) -> Result<(), St
 }
 
 /// Runs every line of a script.
+// Not a `for`: a command that opens a block reads its lines from the same script. Each command leaves no more of the
+// script than it found (`reads`), by which this ends.
 pub fn run(lines: &mut Lines, page: &mut Page) -> Result<(), AllocError> {
     while let Some(line) = lines.next() {
         page.echo(line)?;
