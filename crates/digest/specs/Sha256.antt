@@ -1,4 +1,4 @@
--- SHA-256 as FIPS 180-4 defines it, for messages of whole bytes.
+-- SHA-256 as FIPS 180-4 defines it, for messages of whole bytes. The numbers are the standard's own.
 use Rattle.std.specs.Prelude.{ℕ, zero, suc, ◌-◌, ◌*◌, ◌/◌, ◌%◌, List, [], ◌∷◌, ◌++◌, map, length, take, drop, replicate, fold, slice_index}
 use Rattle.std.specs.List.{range_with_len, flat_map}
 use Rattle.digest.specs.Bytes.{Bytes, number4, bytes4, bytes8}

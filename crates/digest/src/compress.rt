@@ -140,12 +140,8 @@ fn sum(x: [u32; 8], y: [u32; 8]) -> [u32; 8]
 fn block_words(block: &[u8; BLOCK_SIZE]) -> [u32; 16]
     ensures answers { result ≡ words block.now }
 {
-    let mut words = [0; 16];
     let (fours, _) = block.as_chunks();
-    for (i, four) in fours.iter().enumerate() {
-        words[i] = u32::from_be_bytes(*four);
-    }
-    words
+    (*fours.as_array().unwrap()).map(u32::from_be_bytes)
 }
 
 // The hash value after one more block.

@@ -1,3 +1,4 @@
+-- Needed: with `wiped_parts` named on the function, the check alone did not find it.
 use Rattle.std.proofs.Common.{◌≡◌, ℕ, length, take, drop, refl, rules}
 use Rattle.digest.specs.Bytes.{Bytes}
 use Rattle.digest.proofs.Wiped.{wiped_parts}
