@@ -1,7 +1,7 @@
 // A bank over an area that the caller lends, in any format.
 ghost use Rattle.std.specs.Prelude.{◌≡◌, ◌<◌, true, false, length, IsOk, slice_index, if◌then◌else◌, Some, None};
 ghost use Rattle.bank.specs.declared.fault.BankFault.TheVariants.{WrongArea};
-ghost use Rattle.bank.specs.Bank.{MayRaise, telling, raising, raised};
+ghost use Rattle.bank.specs.Bank.{counters, MayRaise, telling, raising, raised};
 ghost use Rattle.bank.specs.Format.{part_of, size_in, numbers_by, limit_by, raised_by_format};
 
 use crate::counters::{Bank, LAST_COUNTER, rises};
@@ -58,7 +58,7 @@ impl<'a, F: Format> AreaBank<'a, F> {
 /// The number in the part of a counter.
 fn number_at<F: Format>(area: &[u8], size: usize, counter: u8) -> u32
     requires usable { size_in F.format area.now ≡ Some size }
-    requires counter { counter < 16 }
+    requires counter { counter < counters }
     ensures answers { result ≡ slice_index (numbers_by F.format area.now) counter }
 {
     let at = size * usize::from(counter);
