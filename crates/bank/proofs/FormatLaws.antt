@@ -1,12 +1,13 @@
 -- Laws of a format: the number of a part, and what a raise of one makes of the area and of the numbers in it.
-use Rattle.std.proofs.Common.{◌≡◌, ℕ, ◌*◌, ◌<◌, ◌≤◌, true, false, List, map, length, get_or, set, is_ok, Some, None, Option, sym, ap, ◌∙◌, arith, ◌⊎◌, inl, inr}
+use Rattle.std.proofs.Common.{◌≡◌, ℕ, ◌+◌, ◌-◌, ◌*◌, ◌<◌, ◌≤◌, true, false, List, map, length, get_or, set, take, drop, is_ok, Some, None, Option, sym, ap, ◌∙◌, arith, ◌⊎◌, inl, inr}
+use borrow.Rule.Slice.PartMut.{put_mid}
 use Rattle.std.specs.Simd.{first_chunks}
 use Rattle.std.proofs.lemmas.List.{map-set}
 use Rattle.std.proofs.lemmas.Bool.{cases_Bool, cond-true}
 use Rattle.bank.specs.Bank.{MayRaise, raising, raised}
 use Rattle.bank.specs.Parts.{with_part}
 use Rattle.bank.specs.Format.{Format, Sixteen, Holds, size_in, part_of, numbers_of, numbers_by, limit_by}
-use Rattle.bank.proofs.PartLaws.{get_or_map-first_chunks, length_part, length_with_part, first_chunks-with_part}
+use Rattle.bank.proofs.PartLaws.{get_or_map-first_chunks, part_ends, written-part, length_part, length_with_part, first_chunks-with_part}
 use Rattle.bank.proofs.Raising.{raises}
 
 -- an area with a size can be used
@@ -24,6 +25,25 @@ usable_of f area s e = go (cases_Bool (f.usable area))
     go (inr u) =
         let none : ◌≡◌ {A = Option ℕ} None (Some s) = rw u at e in
         absurd (cc)
+
+-- the slice that the code cuts, at the counter's number k: it lies within the area, its bytes are the counter's part,
+-- and bytes that are written there are written to that part
+module _ (f : Format) (area : List ℕ) (s k c : ℕ) (e : size_in f area ≡ Some s) (n : k ≡ c) where
+  whole : s * c + s - s * c ≡ s
+  whole = omega arith
+
+  pub cut_within : Sixteen f area → c < 16 → s * k + s ≤ length area
+  cut_within sixteen h = let u = usable_of f area s e in rw n (omega (arith, part_ends 16 s c h, sixteen.whole, u.size))
+
+  pub cut_part : take (s * k + s - s * k) (drop (s * k) area) ≡ part_of f area c
+  cut_part =
+      let u = usable_of f area s e in
+      rw n (ap (λ m. take m (drop (s * c) area)) whole ∙ ap (λ m. take m (drop (m * c) area)) u.size)
+
+  pub cut_written : (new : List ℕ) → put_mid (s * k) (s * k + s - s * k) area new ≡ with_part (f.size (length area)) c area new
+  cut_written new =
+      let u = usable_of f area s e in
+      rw n (written-part s c (s * c + s - s * c) area new whole ∙ ap (λ m. with_part m c area new) u.size)
 
 pub number_in : (f : Format) (area : List ℕ) (c : ℕ) → f.usable area ≡ true → c < 16 → get_or (numbers_by f area) c 0 ≡ f.number (part_of f area c)
 unfolding numbers_of

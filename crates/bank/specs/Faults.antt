@@ -9,13 +9,14 @@ number_of (NotHigher c) = 3
 number_of (AboveLimit c) = 4
 number_of WrongArea = 6
 
--- The counter asked for, also one above 15; 0 for an area.
+-- The counter asked for, also one above 15, 0 for an area: what is printed of a fault always names a place.
 abbrev pub place_of : BankFault → ℕ
 place_of (NoCounter c) = c
 place_of (NotHigher c) = c
 place_of (AboveLimit c) = c
 place_of WrongArea = 0
 
+-- Not `finder_of _`: the proof of the printed text did not close over it.
 abbrev pub finder_of : BankFault → List ℕ
 finder_of (NoCounter c) = codes "bank"
 finder_of (NotHigher c) = codes "bank"

@@ -1,20 +1,21 @@
 -- The tally bank: an area of sixteen regions, each of the same size.
 use Rattle.std.specs.Prelude.{◌≡◌, ℕ, ◌-◌, ◌*◌, ◌/◌, ◌%◌, Bool, ◌&&◌, List, length, ◌==◌, nat_le, nat_lt}
+use Rattle.bank.specs.Bank.{counters}
 use Rattle.bank.specs.Format.{Format, numbers_of, numbers_by, limit_by, raised_by_format}
 use Rattle.bank.specs.Parts.{part}
 use Rattle.bank.specs.Tally.{longest_region, bits_in, tally, raised_by, Clears}
 
 -- The most bytes of an area.
 abbrev pub longest_area : ℕ
-longest_area = 16 * longest_region
+longest_area = counters * longest_region
 
 -- An area that can be used: sixteen regions of 1 to 4,096 bytes, and nothing more.
 unfoldable pub tally_area : List ℕ → Bool
-tally_area area = length area % 16 == 0 && (nat_lt 0 (length area) && nat_le (length area) longest_area)
+tally_area area = length area % counters == 0 && (nat_lt 0 (length area) && nat_le (length area) longest_area)
 
 -- The bytes of each region.
 abbrev pub size_of : List ℕ → ℕ
-size_of area = length area / 16
+size_of area = length area / counters
 
 -- The region of counter c.
 abbrev pub region_of : List ℕ → ℕ → List ℕ
@@ -29,7 +30,7 @@ abbrev pub tally_format : Format
 tally_format =
     record {
       usable = tally_area;
-      size = λ n. n / 16;
+      size = λ n. n / counters;
       limit = λ s. 8 * s;
       number = tally;
       raised = λ region to. raised_by (to - tally region) region;

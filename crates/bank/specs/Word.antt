@@ -1,8 +1,8 @@
 -- The word bank: an area of 64 bytes holds sixteen numbers of 32 bits, the most significant byte first.
-use Rattle.std.specs.Prelude.{ℕ, Bool, ◌&&◌, List, length, ◌==◌, nat_le}
+use Rattle.std.specs.Prelude.{ℕ, ◌*◌, Bool, ◌&&◌, List, length, ◌==◌, nat_le}
 use Rattle.std.specs.List.{list_all}
 use Rattle.std.specs.Int.{w32, from_be_bytes, to_be_bytes}
-use Rattle.bank.specs.Bank.{highest_limit}
+use Rattle.bank.specs.Bank.{counters, highest_limit}
 use Rattle.bank.specs.Format.{Format, numbers_of, numbers_by, limit_by, raised_by_format}
 
 -- The bytes of a word, and of sixteen of them.
@@ -10,7 +10,7 @@ abbrev pub word_size : ℕ
 word_size = 4
 
 abbrev pub words_size : ℕ
-words_size = 64
+words_size = counters * word_size
 
 -- The sixteen numbers that an area of 64 bytes holds.
 abbrev pub words : List ℕ → List ℕ

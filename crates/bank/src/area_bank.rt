@@ -1,10 +1,10 @@
 // A bank over an area that the caller lends, in any format.
 ghost use Rattle.std.specs.Prelude.{◌≡◌, ◌<◌, true, false, length, IsOk, slice_index, if◌then◌else◌, Some, None};
 ghost use Rattle.bank.specs.declared.fault.BankFault.TheVariants.{WrongArea};
-ghost use Rattle.bank.specs.Bank.{MayRaise, telling, raising, raised};
+ghost use Rattle.bank.specs.Bank.{counters, MayRaise, telling, raising, raised};
 ghost use Rattle.bank.specs.Format.{part_of, size_in, numbers_by, limit_by, raised_by_format};
 
-use crate::counters::{Bank, rises};
+use crate::counters::{Bank, LAST_COUNTER, rises};
 use crate::fault::BankFault;
 use crate::format::Format;
 use std::marker::PhantomData;
@@ -58,10 +58,10 @@ impl<'a, F: Format> AreaBank<'a, F> {
 /// The number in the part of a counter.
 fn number_at<F: Format>(area: &[u8], size: usize, counter: u8) -> u32
     requires usable { size_in F.format area.now ≡ Some size }
-    requires counter { counter < 16 }
+    requires counter { counter < counters }
     ensures answers { result ≡ slice_index (numbers_by F.format area.now) counter }
 {
-    let at = size * counter as usize;
+    let at = size * usize::from(counter);
     F::number(&area[at..at + size])
 }
 
@@ -76,7 +76,7 @@ fn raise_at<F: Format>(area: &mut [u8], size: usize, counter: u8, from: u32, to:
     ensures size { size_in F.format area.new ≡ size_in F.format area.old }
     ensures keeps { limit_by F.format area.new ≡ limit_by F.format area.old }
 {
-    let at = size * counter as usize;
+    let at = size * usize::from(counter);
     F::raise(&mut area[at..at + size], from, to);
 }
 
@@ -91,7 +91,7 @@ impl<F: Format> Bank for AreaBank<'_, F> {
     ghost bound = { λ b. limit_by F.format (area_of b) };
 
     fn value(&self, counter: u8) -> Result<u32, BankFault> {
-        if counter > 15 {
+        if counter > LAST_COUNTER {
             return Err(BankFault::NoCounter(counter));
         }
         // An area that cannot be used means sixteen zeros, under the limit 0.

@@ -7,6 +7,9 @@ use crate::fault::BankFault;
 /// How many counters a bank has.
 pub(crate) const COUNTERS: usize = 16;
 
+/// The last of them.
+pub(crate) const LAST_COUNTER: u8 = 15;
+
 /// The highest limit that a bank may have.
 pub(crate) const HIGHEST_LIMIT: u32 = 4_000_000_000;
 

@@ -31,14 +31,14 @@ impl BankFault {
         }
     }
 
-    /// The counter that was asked for, also one above 15; 0 for an area.
+    /// The counter that was asked for, also one above 15, 0 for an area: what is printed of a fault always names a place.
     pub fn place(&self) -> u32
         ensures answers { result ≡ place_of self.now }
     {
         match self {
-            BankFault::NoCounter(counter) => u32::from(*counter),
-            BankFault::NotHigher(counter) => u32::from(*counter),
-            BankFault::AboveLimit(counter) => u32::from(*counter),
+            BankFault::NoCounter(counter)
+            | BankFault::NotHigher(counter)
+            | BankFault::AboveLimit(counter) => u32::from(*counter),
             BankFault::WrongArea => 0,
         }
     }

@@ -6,13 +6,13 @@ ghost use Rattle.bank.specs.Bank.{highest_limit};
 ghost use Rattle.bank.specs.Soundness.{word_sixteen};
 ghost use Rattle.bank.specs.Word.{word_size, word_area, word_format};
 
-use crate::counters::HIGHEST_LIMIT;
+use crate::counters::{COUNTERS, HIGHEST_LIMIT};
 use crate::format::Format;
 
 /// The bytes of a word, and of sixteen of them.
 const WORD_SIZE: usize = 4;
 
-const WORDS_SIZE: usize = 64;
+const WORDS_SIZE: usize = COUNTERS * WORD_SIZE;
 
 /// Sixteen words of 32 bits.
 #[derive(Clone, Copy, Debug)]
@@ -50,7 +50,7 @@ impl Format for Words {
     ghost parts_fit = { λ area usable. refl };
 
     fn part_size(area: &[u8]) -> Option<usize> {
-        is_usable(area).then_some(Self::LONGEST)
+        is_usable(area).then_some(WORD_SIZE)
     }
 
     fn limit(_size: usize) -> u32 {

@@ -1,7 +1,7 @@
 -- What a dongle means: a trinket, which is an identity, a key and sixteen numbers, beside a limit.
 use Rattle.std.specs.Prelude.{◌≡◌, ℕ, if◌then◌else◌, List, length, Ok, Err, Result, nat_lt, slice_index}
 use Rattle.bank.specs.declared.fault.BankFault.{BankFault}
-use Rattle.bank.specs.Bank.{telling, raising, raised}
+use Rattle.bank.specs.Bank.{counters, telling, raising, raised}
 use Rattle.digest.specs.Hmac.{hmac}
 use Rattle.digest.specs.Sizes.{block_size}
 use Rattle.statement.specs.declared.types.Statement.{Statement}
@@ -19,7 +19,7 @@ pub record Trinket : Type 0 where
 pub record Whole (t : Trinket) : Type 0 where
   pub identity_bytes : length t.identity ≡ 8
   pub key_bytes : length t.key ≡ 32
-  pub sixteen : length t.numbers ≡ 16
+  pub sixteen : length t.numbers ≡ counters
 
 -- the number at which a counter stands
 abbrev pub stands : Trinket → ℕ → ℕ

@@ -27,7 +27,7 @@ impl DongleFault {
         }
     }
 
-    /// The place that the part that found it gives.
+    /// The place that the part that found it gives, 0 for the area: what is printed of a fault always names a place.
     pub fn place(&self) -> u32
         ensures answers { result ≡ place_of self.now }
     {

@@ -65,8 +65,7 @@ impl Signer {
 pub(crate) fn number_of<B: Bank>(bank: &B, counter: u8) -> Result<u32, DongleFault>
     ensures answers { result ≡ passed_up (telling (B.Bank.numbers bank.now) counter) (λ n. n) }
 {
-    let number = bank.value(counter)?;
-    Ok(number)
+    Ok(bank.value(counter)?)
 }
 
 /// Signs where a counter stands.

@@ -1,6 +1,6 @@
 // What every dongle does.
 ghost use Rattle.std.specs.Prelude.{◌≡◌, ℕ, ◌<◌, ◌≤◌, length};
-ghost use Rattle.bank.specs.Bank.{highest_limit};
+ghost use Rattle.bank.specs.Bank.{counters, highest_limit};
 ghost use Rattle.digest.specs.Wiped.{wiped};
 ghost use Rattle.dongle.specs.Trinket.{Trinket, Whole, stands, valuing, attesting, attested, stating};
 
@@ -42,7 +42,7 @@ pub trait Dongle {
     /// The number that no counter exceeds.
     fn limit(&self) -> u32
         ensures answers { result ≡ most self.now }
-        ensures within { (c : ℕ) → c < 16 → stands (model self.now) c ≤ result }
+        ensures within { (c : ℕ) → c < counters → stands (model self.now) c ≤ result }
         ensures highest { result ≤ highest_limit };
 
     /// A counter's number, unsigned.
