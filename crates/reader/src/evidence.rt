@@ -82,9 +82,7 @@ fn part<const N: usize>(bytes: &[u8], at: usize) -> [u8; N]
     requires { at + N ≤ length bytes.now }
     ensures { result ≡ take N (drop at bytes.now) }
 {
-    let mut part = [0; N];
-    part.copy_from_slice(&bytes[at..at + N]);
-    part
+    *bytes[at..].first_chunk().unwrap()
 }
 
 // The statement of that place among so many, with its tag.
