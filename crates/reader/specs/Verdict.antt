@@ -1,11 +1,11 @@
 -- The verdict of a reader on an answer: the rules in the order in which they are tried, and what an accepted answer says.
-use Rattle.std.specs.Prelude.{ℕ, Bool, if◌then◌else◌, ◌&&◌, List, length, drop, Ok, Result, ◌==◌, nat_le, nat_lt, slice_index}
+use Rattle.std.specs.Prelude.{ℕ, Bool, true, false, not, if◌then◌else◌, ◌&&◌, List, length, drop, Ok, Result, ◌==◌, nat_le, slice_index}
 use Rattle.std.specs.Option.{ok_or}
 use Rattle.digest.specs.Sizes.{block_size}
 use Rattle.notice.specs.declared.answer.Kind.{Kind}
 use Rattle.notice.specs.declared.answer.Kind.TheVariants as kind
 use Rattle.notice.specs.Limits.{text_limit, answer_head}
-use Rattle.notice.specs.Answer.{number_of_kind, kind_of, statements_of, has_text, answer_length, head_length}
+use Rattle.notice.specs.Answer.{kind_of, statements_of, has_text, answer_length, head_length}
 use Rattle.reader.specs.declared.types.Asked.{Asked}
 use Rattle.reader.specs.declared.types.Asked.TheVariants as asked
 use Rattle.reader.specs.declared.types.Question.{Question}
@@ -17,10 +17,18 @@ use Rattle.reader.specs.declared.evidence.Evidence.TheVariants.{Found, Skipped, 
 use Rattle.reader.specs.Evidence.{evidence_in, text_in}
 use Rattle.reader.specs.Rules.{◌>>=◌, demanded, tags, origins, nonces, numbers, digests}
 
--- kinds 1 to 4 answer for a position, 5 and 6 for the end
+abbrev pub is_of_end : Kind → Bool
+is_of_end kind.Found = false
+is_of_end kind.Skipped = false
+is_of_end kind.Forgotten = false
+is_of_end kind.NotYet = false
+is_of_end kind.End = true
+is_of_end kind.EndOfEmpty = true
+
+-- the kinds of an end answer for the end, all else for a position
 abbrev pub answers_to : Asked → Kind → Bool
-answers_to (asked.Position p) kind = nat_le (number_of_kind kind) 4
-answers_to asked.End kind = nat_lt 4 (number_of_kind kind)
+answers_to (asked.Position p) kind = not (is_of_end kind)
+answers_to asked.End kind = is_of_end kind
 
 -- a text has at most 200 bytes, and none where none belongs
 abbrev pub right_size : Kind → ℕ → Bool

@@ -4,13 +4,13 @@ ghost use Rattle.digest.specs.Wiped.{wiped};
 ghost use Rattle.notice.specs.Answer.{head_length};
 ghost use Rattle.reader.specs.Verdict.{verdict_with, accepted, decided, decided_by_kind, decided_on, verdict};
 
-use crate::evidence::{Body, Evidence, Text, text_start};
+use crate::evidence::{Body, Evidence, Text};
 use crate::fault::ReaderFault;
 use crate::layout::lay_out;
 use crate::rules::{check_digests, check_nonces, check_numbers};
 use crate::types::{Challenge, Question, Reader, Verdict};
 use digest::WORKING_SIZE;
-use notice::{ANSWER_HEAD, AnswerHead, Kind};
+use notice::{AnswerHead, Kind};
 
 fn with_no_text(kind: Kind, position: u32, high: u32) -> Verdict
     ensures answers { result ≡ verdict_with kind position high 0 0 }
@@ -31,7 +31,7 @@ fn with_text(kind: Kind, position: u32, high: u32, size: usize) -> Verdict
         kind,
         position,
         high,
-        text_place: ANSWER_HEAD + text_start(kind),
+        text_place: kind.head_length(),
         text_length: size,
     }
 }

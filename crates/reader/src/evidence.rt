@@ -7,7 +7,7 @@ ghost use Rattle.notice.specs.Answer.{head_length};
 ghost use Rattle.reader.specs.Evidence.{signed_in, previous_in, evidence_in, text_in, first_of, second_of, status_of};
 
 use digest::DIGEST_SIZE;
-use notice::{Kind, PREVIOUS_SIZE};
+use notice::{ANSWER_HEAD, Kind, PREVIOUS_SIZE};
 use statement::{SIGNED_STATEMENT_SIZE, STATEMENT_SIZE, SignedStatement, Statement};
 use std::marker::Model;
 
@@ -82,9 +82,7 @@ fn part<const N: usize>(bytes: &[u8], at: usize) -> [u8; N]
     requires { at + N ≤ length bytes.now }
     ensures { result ≡ take N (drop at bytes.now) }
 {
-    let mut part = [0; N];
-    part.copy_from_slice(&bytes[at..at + N]);
-    part
+    *bytes[at..].first_chunk().unwrap()
 }
 
 // The statement of that place among so many, with its tag.
@@ -141,20 +139,8 @@ impl<'a> Body<'a> {
     pub(crate) fn text(&self) -> Text<'a>
         ensures answers { result ≡ text_in self.now.kind self.now.rest.now }
     {
-        let bytes = &self.rest[text_start(self.kind)..];
+        let bytes = &self.rest[self.kind.head_length() - ANSWER_HEAD..];
         Text { bytes }
-    }
-}
-
-// How many bytes stand before the text after the first three.
-pub(crate) fn text_start(kind: Kind) -> usize
-    ensures answers { result ≡ head_length kind - answer_head }
-{
-    let signed = SIGNED_STATEMENT_SIZE * usize::from(kind.statements());
-    if kind.has_text() {
-        signed + PREVIOUS_SIZE
-    } else {
-        signed
     }
 }
 

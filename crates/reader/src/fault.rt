@@ -1,10 +1,11 @@
-// Why a reader draws no challenge, or does not accept an answer.
+// The refusals of a reader.
 ghost use Rattle.std.specs.Prelude.{◌≡◌, Some};
 ghost use Rattle.reader.specs.Faults.{number_of, place_of, finder_of, shown_of};
 
 use std::error::Error;
 use std::fmt;
 
+/// Why a reader draws no challenge, or does not accept an answer.
 #[derive(Clone, Copy, PartialEq, Eq, Debug)]
 pub enum ReaderFault {
     /// There is no such queue.

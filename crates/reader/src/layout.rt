@@ -57,9 +57,7 @@ pub(crate) fn lay_out(asked: Asked, head: AnswerHead, length: usize) -> Result<K
     ensures answers { result ≡ laid_out asked head.number head.count head.size length }
 {
     demand(length == head.length(), ReaderFault::WrongLength)?;
-    let Ok(kind) = Kind::try_from(head.number) else {
-        return Err(ReaderFault::WrongForm);
-    };
+    let kind = Kind::try_from(head.number).map_err(|_| ReaderFault::WrongForm)?;
     demand(is_right_form(asked, kind, head), ReaderFault::WrongForm)?;
     Ok(kind)
 }

@@ -77,8 +77,8 @@ impl Reader {
         )
     }
 
-    // First, then second, as in `check_tags`: one function over a closure was tried, and left open that what a
-    // closure over the working area returns does not depend on the calls before.
+    // First, then second, as in `check_tags`, whose calls write the working area: one function over a closure was
+    // tried for both, and left open that what a closure over that area returns does not depend on the calls before.
     pub(crate) fn check_origins(&self, queue: u8, evidence: &Evidence) -> Result<(), ReaderFault>
         ensures answers { result ≡ origins self.now.identity queue evidence.now }
     {

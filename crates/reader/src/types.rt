@@ -11,15 +11,19 @@ pub struct Reader {
 /// A position of a queue, or its end.
 #[derive(Clone, Copy, PartialEq, Eq, Debug)]
 pub enum Asked {
+    /// The notice of this position, counted from 1.
     Position(u32),
+    /// The last notice of the queue, or that there is none.
     End,
 }
 
 /// What a challenge asks, with the nonce that tells its answers from those to others.
 #[derive(Clone, Copy, Debug, PartialEq, Eq)]
 pub struct Question {
+    /// 0 to 7.
     pub queue: u8,
     pub asked: Asked,
+    /// 32 bytes that no other question has.
     pub nonce: [u8; 32],
 }
 

@@ -2,6 +2,7 @@
 use Rattle.std.proofs.Common.{◌≡◌, ℕ, ◌+◌, ◌-◌, ◌<◌, ◌≤◌, Bool, true, false, cond, eqb, ◌⊎◌, List, length, get_or, drop, Some, None, Ok, Err, Option, Result, leb, Decides, sym, refl, ap, ◌∙◌, subst, inl, inr, ⊎_elim, arith}
 use Rattle.std.proofs.lemmas.Bool.{cases_lt, leb-true, le-leb}
 use Rattle.std.proofs.lemmas.Bool.Decides.{nat_tests, Decides-eqb}
+use Rattle.std.proofs.lemmas.Option.{none-some, same_Some}
 use Rattle.std.specs.Option.{ok_or}
 use Rattle.notice.specs.declared.answer.Kind.{Kind}
 use Rattle.notice.specs.declared.answer.Kind.TheVariants as kinds
@@ -15,7 +16,7 @@ use Rattle.reader.specs.Evidence.{evidence_in, text_in}
 use Rattle.reader.specs.Rules.{Said, demanded, ◌>>=◌, tags, origins, nonces, digests}
 use Rattle.reader.specs.Rules as rules
 use Rattle.reader.specs.Verdict.{working_size, right_form, position_of, accepted, decided_by_kind, verdict}
-use Rattle.reader_law.specs.Refusals.{Rule, room, size, form, tag, origin, nonce, numbers, digest, place, refusal, Form, Read, OfKind, Holds, FirstFailing, number_told}
+use Rattle.reader_law.specs.Refusals.{Rule, room, size, form, tag, origin, nonce, numbers, digest, place, refusal, Form, Read, OfKind, Holds, FirstFailing, refusal_number}
 use Rattle.reader_law.proofs.Settled.{Settles, settled, both, tags_settle, origins_settle, nonces_settle, numbers_settle, digests_settle}
 
 -- every rule holds, and the verdict is what the answer's evidence says
@@ -27,7 +28,7 @@ pub record Accepts (i k : List ℕ) (q : Question) (n : ℕ) (a : List ℕ) (v :
 
 abbrev pub Outcome : List ℕ → List ℕ → Question → ℕ → List ℕ → Result Verdict ReaderFault → Type 0
 Outcome i k q n a r =
-    ((rule : Rule) × FirstFailing i k q n a rule × (number_told r ≡ refusal rule))
+    ((rule : Rule) × FirstFailing i k q n a rule × (refusal_number r ≡ Some (refusal rule)))
     ⊎ ((v : Verdict) × (r ≡ Ok v) × Accepts i k q n a v)
 
 abbrev Before : List ℕ → List ℕ → Question → ℕ → List ℕ → ℕ → Type 0
@@ -43,18 +44,17 @@ record Placed (r : Rule) : Type 0 where
   at : rule_at (place r) ≡ r
   numbered : place r ≡ refusal r - 15
   within : place r < 8
-  above : 0 < refusal r
 
 placed : (r : Rule) → Placed r
 unfolding rule_at
-placed room = record { at = refl; numbered = refl; within = omega arith; above = omega arith }
-placed size = record { at = refl; numbered = refl; within = omega arith; above = omega arith }
-placed form = record { at = refl; numbered = refl; within = omega arith; above = omega arith }
-placed tag = record { at = refl; numbered = refl; within = omega arith; above = omega arith }
-placed origin = record { at = refl; numbered = refl; within = omega arith; above = omega arith }
-placed nonce = record { at = refl; numbered = refl; within = omega arith; above = omega arith }
-placed numbers = record { at = refl; numbered = refl; within = omega arith; above = omega arith }
-placed digest = record { at = refl; numbered = refl; within = omega arith; above = omega arith }
+placed room = record { at = refl; numbered = refl; within = omega arith }
+placed size = record { at = refl; numbered = refl; within = omega arith }
+placed form = record { at = refl; numbered = refl; within = omega arith }
+placed tag = record { at = refl; numbered = refl; within = omega arith }
+placed origin = record { at = refl; numbered = refl; within = omega arith }
+placed nonce = record { at = refl; numbered = refl; within = omega arith }
+placed numbers = record { at = refl; numbered = refl; within = omega arith }
+placed digest = record { at = refl; numbered = refl; within = omega arith }
 
 same_place : (r s : Rule) → place r ≡ place s → r ≡ s
 same_place r s e = sym (placed r).at ∙ (ap rule_at e ∙ (placed s).at)
@@ -79,7 +79,7 @@ at_rule :
     (Before i k q n a (place r + 1) → Outcome i k q n a next) → Outcome i k q n a (said >>= (λ _. next))
 at_rule i k q n a r (Ok u) next T s to from before more = more (also i k q n a r before (to (s.keeps refl)))
 at_rule i k q n a r (Err fault) next T s to from before more =
-    inl (r, record { before = before; fails = λ h. let w = s.passes (from h) in cc }, s.tells fault refl)
+    inl (r, record { before = before; fails = λ h. let w = s.passes (from h) in cc }, ap Some (s.tells fault refl))
 
 kind_back : (kind : Kind) → kind_of (number_of_kind kind) ≡ Some kind
 kind_back kinds.Found = refl
@@ -197,17 +197,17 @@ outcome i k q n a =
 -- a refusal is of the first rule that fails
 pub first_from_number :
     (i k : List ℕ) (q : Question) (n : ℕ) (a : List ℕ) (r : Rule) →
-    number_told (verdict i k q n a) ≡ refusal r → FirstFailing i k q n a r
+    refusal_number (verdict i k q n a) ≡ Some (refusal r) → FirstFailing i k q n a r
 first_from_number i k q n a r h =
     ⊎_elim
-    (λ o. let P : Rule → Type 0 = λ z. FirstFailing i k q n a z in subst P (same_refusal o.0 r (sym o.2 ∙ h)) o.1)
-    (λ o. let e = ap number_told o.1 in absurd (omega (arith, (placed r).above, h, e)))
+    (λ o. let P : Rule → Type 0 = λ z. FirstFailing i k q n a z in subst P (same_refusal o.0 r (same_Some _ _ (sym o.2 ∙ h))) o.1)
+    (λ o. absurd (none-some _ (sym (ap refusal_number o.1) ∙ h)))
     (outcome i k q n a)
 
 -- and the first rule that fails gives its number
 pub number_from_first :
     (i k : List ℕ) (q : Question) (n : ℕ) (a : List ℕ) (r : Rule) →
-    FirstFailing i k q n a r → number_told (verdict i k q n a) ≡ refusal r
+    FirstFailing i k q n a r → refusal_number (verdict i k q n a) ≡ Some (refusal r)
 number_from_first i k q n a r f =
     ⊎_elim
     (λ o.
@@ -216,7 +216,7 @@ number_from_first i k q n a r f =
     (λ more.
     ⊎_elim
     (λ less. absurd (f.fails (o.1.before r less)))
-    (λ most. o.2 ∙ ap refusal (same_place o.0 r (omega arith)))
+    (λ most. o.2 ∙ ap (λ z. Some (refusal z)) (same_place o.0 r (omega arith)))
     (cases_lt (place r) (place o.0)))
     (cases_lt (place o.0) (place r)))
     (λ o. absurd (f.fails (o.2.holds r)))
@@ -228,7 +228,7 @@ pub accepts_from_ok :
     verdict i k q n a ≡ Ok v → Accepts i k q n a v
 accepts_from_ok i k q n a v h =
     ⊎_elim
-    (λ o. let e = ap number_told h in absurd (omega (arith, (placed o.0).above, o.2, e)))
+    (λ o. absurd (none-some _ (sym (ap refusal_number h) ∙ o.2)))
     (λ o. let P : Verdict → Type 0 = λ z. Accepts i k q n a z in
     let ok : Ok o.0 ≡ Ok v = sym o.1 ∙ h in
     let same : o.0 ≡ v = cc in subst P same o.2)

@@ -125,7 +125,7 @@ pub record FirstFailing (identity key : List ℕ) (question : Question) (n : ℕ
   pub before : (other : Rule) → place other < place rule → Holds identity key question n answer other
   pub fails : Holds identity key question n answer rule → ⊥
 
--- the number of a refusal, 0 where there is none
-abbrev pub number_told : Result Verdict ReaderFault → ℕ
-number_told (Ok v) = 0
-number_told (Err fault) = number_of fault
+-- the number of a refusal, none where there is none
+abbrev pub refusal_number : Result Verdict ReaderFault → Option ℕ
+refusal_number (Ok v) = None
+refusal_number (Err fault) = Some (number_of fault)

@@ -1,12 +1,12 @@
 // The check of an answer, with its promise in the words of the rules.
 #![tactic(auto)]
 
-ghost use Rattle.std.specs.Prelude.{◌≡◌, length, Ok};
+ghost use Rattle.std.specs.Prelude.{◌≡◌, length, Some, Ok};
 ghost use Rattle.digest.specs.Wiped.{wiped};
 ghost use Rattle.reader.specs.declared.types.Verdict.{Verdict};
 ghost use Rattle.reader.specs.Verdict.{verdict};
 ghost use Rattle.reader_law.specs.Rows.{Right};
-ghost use Rattle.reader_law.specs.Refusals.{Rule, refusal, FirstFailing, number_told};
+ghost use Rattle.reader_law.specs.Refusals.{Rule, refusal, FirstFailing, refusal_number};
 
 use reader::{Challenge, Reader, ReaderFault, Verdict};
 
@@ -22,8 +22,8 @@ pub fn check_by_the_rules(
     ensures answers { result ≡ verdict reader.now.identity reader.now.key challenge.question (length working.old) answer.now }
     ensures accepts { (v : Verdict) → result ≡ Ok v → Right reader.now.identity reader.now.key challenge.question (length working.old) answer.now v }
     ensures only { (v : Verdict) → Right reader.now.identity reader.now.key challenge.question (length working.old) answer.now v → result ≡ Ok v }
-    ensures refuses { (rule : Rule) → number_told result ≡ refusal rule → FirstFailing reader.now.identity reader.now.key challenge.question (length working.old) answer.now rule }
-    ensures first { (rule : Rule) → FirstFailing reader.now.identity reader.now.key challenge.question (length working.old) answer.now rule → number_told result ≡ refusal rule }
+    ensures refuses { (rule : Rule) → refusal_number result ≡ Some (refusal rule) → FirstFailing reader.now.identity reader.now.key challenge.question (length working.old) answer.now rule }
+    ensures first { (rule : Rule) → FirstFailing reader.now.identity reader.now.key challenge.question (length working.old) answer.now rule → refusal_number result ≡ Some (refusal rule) }
     ensures working { working.new ≡ wiped working.old }
 {
     reader.check(challenge, answer, working)
