@@ -1,6 +1,6 @@
 -- An answer: kind, number of statements and text length, one byte each; the statements; their tags in the same order.
 -- The kinds with a text go on with the previous digest and the text.
-use Rattle.std.specs.Prelude.{ℕ, ◌+◌, ◌*◌, Bool, true, false, ◌||◌, List, [], ◌∷◌, ◌++◌, length, Some, None, Option, ◌==◌, if◌then◌else◌, Result}
+use Rattle.std.specs.Prelude.{ℕ, ◌+◌, ◌*◌, Bool, true, false, List, [], ◌∷◌, ◌++◌, codes, length, Some, None, Option, ◌==◌, if◌then◌else◌, Result}
 use Rattle.std.specs.List.{flat_map}
 use Rattle.statement.specs.declared.types.SignedStatement.{SignedStatement}
 use Rattle.statement.specs.Layout.{encoded, signed_statement_size}
@@ -33,6 +33,10 @@ kind_of n =
 abbrev pub kind_read : ℕ → Result Kind UnknownKind
 kind_read n = ok_or (kind_of n) (record {})
 
+-- what is printed of a number that no kind has
+abbrev pub unknown_shown : List ℕ
+unknown_shown = codes "unknown kind"
+
 -- the end shows a status and an advance, every other kind one of the two
 abbrev pub statements_of : Kind → ℕ
 statements_of Found = 1
@@ -58,10 +62,18 @@ answer_bytes kind signed previous text =
     ++ (flat_map (λ s. s.tag) signed
     ++ (if has_text kind then previous ++ text else [])))
 
+abbrev pub option_has_text : Option Kind → Bool
+option_has_text None = false
+option_has_text (Some kind) = has_text kind
+
+-- the number is of a kind with a text
+abbrev pub number_has_text : ℕ → Bool
+number_has_text number = option_has_text (kind_of number)
+
 -- the length that the first three bytes of an answer give
 abbrev pub answer_length : ℕ → ℕ → ℕ → ℕ
 answer_length number count size =
-    answer_head + signed_statement_size * count + (if number == 1 || number == 5 then previous_size + size else 0)
+    answer_head + signed_statement_size * count + (if number_has_text number then previous_size + size else 0)
 
 -- the bytes before the text, or all of them where there is none
 abbrev pub head_length : Kind → ℕ

@@ -1,5 +1,5 @@
 -- How long texts, records and digest inputs are.
-use Rattle.std.specs.Prelude.{ℕ, ◌+◌}
+use Rattle.std.specs.Prelude.{ℕ, ◌+◌, Bool, ◌&&◌, nat_le}
 use Rattle.statement.specs.Layout.{signed_statement_size}
 
 abbrev pub previous_size : ℕ
@@ -25,3 +25,7 @@ input_limit = input_head + text_limit
 -- an answer before its statements: kind, number of statements and text length
 abbrev pub answer_head : ℕ
 answer_head = 3
+
+-- a head, and a text of that size after it, may be written into an area of that length
+abbrev pub has_room_after : ℕ → ℕ → ℕ → Bool
+has_room_after head size room = nat_le size text_limit && nat_le (head + size) room

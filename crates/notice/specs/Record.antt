@@ -3,7 +3,7 @@ use Rattle.std.specs.Prelude.{◌≡◌, ℕ, ◌+◌, ◌/◌, ◌%◌, Bool, �
 use Rattle.statement.specs.declared.types.SignedStatement.{SignedStatement}
 use Rattle.statement.specs.Layout.{encoded_signed, decoded_signed, signed_statement_size}
 use Rattle.notice.specs.declared.spans.Span.{Span}
-use Rattle.notice.specs.Limits.{previous_size, text_limit, record_head}
+use Rattle.notice.specs.Limits.{previous_size, text_limit, record_head, has_room_after}
 use Rattle.notice.specs.Spans.{span_contains}
 
 -- the record of a signed statement, the previous digest and a text
@@ -12,7 +12,7 @@ recorded s previous text = encoded_signed s ++ (previous ++ (length text ∷ tex
 
 -- a text of that size may be recorded in an area of that length
 abbrev pub has_room : ℕ → ℕ → Bool
-has_room size room = nat_le size text_limit && nat_le (record_head + size) room
+has_room size room = has_room_after record_head size room
 
 -- what a record's bytes say
 

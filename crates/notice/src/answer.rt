@@ -1,9 +1,11 @@
 // The kinds of answers, and how long an answer is.
-ghost use Rattle.std.specs.Prelude.{◌≡◌};
-ghost use Rattle.notice.specs.Answer.{number_of_kind, kind_read, statements_of, has_text, head_length, answer_length};
+ghost use Rattle.std.specs.Prelude.{◌≡◌, Some};
+ghost use Rattle.notice.specs.Answer.{number_of_kind, kind_read, unknown_shown, statements_of, has_text, head_length, answer_length};
 
 use super::limits::{ANSWER_HEAD, PREVIOUS_SIZE};
 use statement::SIGNED_STATEMENT_SIZE;
+use std::error::Error;
+use std::fmt;
 
 /// What an answer says of the position or the end that was asked for.
 #[derive(Clone, Copy, PartialEq, Eq, Debug)]
@@ -25,6 +27,16 @@ pub enum Kind {
 /// A number that no kind has.
 #[derive(Clone, Copy, PartialEq, Eq, Debug)]
 pub struct UnknownKind;
+
+impl fmt::Display for UnknownKind {
+    ghost output = { λ x. Some unknown_shown };
+
+    fn fmt<W: fmt::Write>(&self, f: &mut fmt::Formatter<W>) -> fmt::Result {
+        f.write_str("unknown kind")
+    }
+}
+
+impl Error for UnknownKind {}
 
 impl From<Kind> for u8 {
     ghost from_gives = { λ kind number. number ≡ number_of_kind kind };

@@ -1,4 +1,6 @@
 // How long texts, records and digest inputs are.
+ghost use Rattle.std.specs.Prelude.{◌≡◌, ◌+◌, ◌<◌, length, if◌then◌else◌, Some, None};
+ghost use Rattle.notice.specs.Limits.{has_room_after};
 
 use statement::SIGNED_STATEMENT_SIZE;
 
@@ -28,3 +30,12 @@ pub const ANSWER_LIMIT: usize = ANSWER_HEAD
     + 2 * SIGNED_STATEMENT_SIZE
     + PREVIOUS_SIZE
     + TEXT_LIMIT;
+
+/// The length of a head and the text after it, none where the text is over its limit or the area too short.
+pub(crate) fn written_length(head: usize, text: &[u8], area: &[u8]) -> Option<usize>
+    requires small { head < 256 }
+    ensures answers { result ≡ (if has_room_after head (length text.now) (length area.now) then Some (head + length text.now) else None) }
+{
+    let length = head + text.len();
+    (text.len() <= TEXT_LIMIT && length <= area.len()).then_some(length)
+}

@@ -155,9 +155,12 @@ impl<'a> Record<'a> {
         requires small { at < 256 }
         ensures answers { result ≡ number_at at self.now }
     {
-        if let Some([first, second, third, fourth, ..]) = self.bytes.get(at..) {
-            return u32::from_be_bytes([*first, *second, *third, *fourth]);
+        // A search reads two numbers of every record: the four bytes at once where they are there.
+        match self.bytes.get(at..).and_then(|rest| rest.first_chunk()) {
+            Some(four) => u32::from_be_bytes(*four),
+            None => u32::from_be_bytes([at, at + 1, at + 2, at + 3].map(|place| self.byte_at(
+                place,
+            ))),
         }
-        u32::from_be_bytes([at, at + 1, at + 2, at + 3].map(|place| self.byte_at(place)))
     }
 }

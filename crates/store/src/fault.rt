@@ -39,8 +39,9 @@ impl StoreFault {
         ensures answers { result ≡ place_of self.now }
     {
         match self {
-            StoreFault::AlreadySpanned(counter) => u32::from(*counter),
-            StoreFault::DoesNotFit(counter) => u32::from(*counter),
+            StoreFault::AlreadySpanned(counter) | StoreFault::DoesNotFit(counter) => {
+                u32::from(*counter)
+            }
             StoreFault::BadRecord | StoreFault::WrongArea | StoreFault::ShortArea => 0,
         }
     }

@@ -3,17 +3,12 @@ use Rattle.std.proofs.lemmas.Bool.Decides.{nat_tests}
 use Rattle.statement.proofs.Layouts.{four_bytes}
 use Rattle.notice.specs.Limits.{input_head}
 use Rattle.notice.specs.Input.{digest_input, has_input_room}
-use Rattle.notice.proofs.Behind.{drop_behind}
+use Rattle.notice.proofs.Behind.{drop_behind, one_set}
 use Rattle.notice.proofs.Inputs.{input_determines}
 use Rattle.notice.proofs.input.write_input.Goals as goal
 
-pub returns-then-size-gt-TEXT_LIMIT : goal.returns-then-size-gt-TEXT_LIMIT
-returns-then-size-gt-TEXT_LIMIT c =
-    record {
-      answers = grind (arith, nat_tests);
-      area = grind (arith, nat_tests);
-      determines = input_determines c.args.span.now c.args.previous.now c.args.text.now (omega arith);
-    }
+pub returns-in_err-length-clause-determines : goal.returns-in_err-length-clause-determines
+returns-in_err-length-clause-determines c = input_determines c.args.span.now c.args.previous.now c.args.text.now (omega arith)
 
 pub returns : goal.returns
 unfolding digest_input
@@ -36,11 +31,11 @@ returns c =
           rw (
             room,
             behind,
+            one_set c.split_at_mut-lane.result.0.now c.args.span.now.lane (omega arith),
             c.copy_from_slice.ensures.after,
             c.copy_from_slice-2.ensures.after,
             c.copy_from_slice-3.ensures.after,
             c.copy_from_slice-4.ensures.after,
-            c.copy_from_slice-5.ensures.after,
             old,
             new,
           ) (simp append_assoc);

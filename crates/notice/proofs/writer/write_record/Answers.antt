@@ -2,17 +2,12 @@ use Rattle.std.proofs.Common.{◌≡◌, ◌+◌, true, length, drop, refl, ◌�
 use Rattle.std.proofs.lemmas.Bool.Decides.{nat_tests}
 use Rattle.notice.specs.Limits.{record_head}
 use Rattle.notice.specs.Record.{recorded, has_room}
-use Rattle.notice.proofs.Behind.{drop_behind}
+use Rattle.notice.proofs.Behind.{drop_behind, one_set}
 use Rattle.notice.proofs.Records.{recorded_tells}
 use Rattle.notice.proofs.writer.write_record.Goals as goal
 
-pub returns-then-size-gt-TEXT_LIMIT : goal.returns-then-size-gt-TEXT_LIMIT
-returns-then-size-gt-TEXT_LIMIT c =
-    record {
-      answers = grind (arith, nat_tests);
-      area = grind (arith, nat_tests);
-      back = recorded_tells c.args.signed.now c.args.previous.now c.args.text.now c.into-bytes.ensures.sized (omega arith);
-    }
+pub returns-in_err-end-clause-back : goal.returns-in_err-end-clause-back
+returns-in_err-end-clause-back c = recorded_tells c.args.signed.now c.args.previous.now c.args.text.now c.into-bytes.ensures.sized (omega arith)
 
 pub returns : goal.returns
 unfolding recorded
@@ -34,10 +29,10 @@ returns c =
           rw (
             room,
             behind,
+            one_set c.split_at_mut-length.result.0.now n (omega arith),
             c.copy_from_slice.ensures.after,
             c.copy_from_slice-2.ensures.after,
             c.copy_from_slice-3.ensures.after,
-            c.copy_from_slice-4.ensures.after,
             c.into-bytes.ensures.answers,
           ) (simp append_assoc);
       back = recorded_tells c.args.signed.now c.args.previous.now c.args.text.now c.into-bytes.ensures.sized (omega arith);
