@@ -1,5 +1,5 @@
 -- An answer of which every rule holds keeps every rule of its kind's row.
-use Rattle.std.proofs.Common.{◌≡◌, ℕ, ◌+◌, ◌*◌, ◌≤◌, true, ◌==◌, List, [], ◌∷◌, ◌++◌, length, get_or, drop, sym, refl, ap, ◌∙◌, arith}
+use Rattle.std.proofs.Common.{◌≡◌, ℕ, ◌+◌, ◌*◌, ◌≤◌, true, false, List, [], ◌∷◌, ◌++◌, length, get_or, drop, sym, refl, ap, ◌∙◌, arith}
 use Rattle.std.proofs.lemmas.List.{length-drop, drop_all}
 use Rattle.std.proofs.lemmas.Bool.{eqb-true, leb-true}
 use Rattle.digest.specs.Hmac.{hmac}
@@ -8,7 +8,7 @@ use Rattle.statement.specs.Layout.{encoded, SizedSigned, signed_statement_size}
 use Rattle.notice.specs.declared.answer.Kind.{Kind}
 use Rattle.notice.specs.declared.answer.Kind.TheVariants.{Found, Skipped, Forgotten, NotYet, End, EndOfEmpty}
 use Rattle.notice.specs.Limits.{answer_head, previous_size, text_limit}
-use Rattle.notice.specs.Answer.{number_of_kind, statements_of, answer_bytes, answer_length, head_length}
+use Rattle.notice.specs.Answer.{number_of_kind, statements_of, has_text, answer_bytes, answer_length, head_length}
 use Rattle.reader.specs.declared.types.Question.{Question}
 use Rattle.reader.specs.declared.types.Verdict.{Verdict}
 use Rattle.reader.specs.Evidence.{signed_in, previous_in, evidence_in, text_in}
@@ -16,7 +16,7 @@ use Rattle.reader.specs.Verdict.{right_size, verdict_with}
 use Rattle.reader_law.specs.Rows.{SignedBy, Row}
 use Rattle.reader_law.specs.Refusals.{size, tag, origin, nonce, numbers, digest, Form}
 use Rattle.reader_law.proofs.Outcomes.{Accepts}
-use Rattle.reader_law.proofs.Rightly.{Keeps}
+use Rattle.reader_law.proofs.Rightly.{Keeps, bare_kind}
 use Rattle.reader_law.proofs.Parts.{Below, below_drop, headed, split_at, length_part, one_written, two_written, read_sized, tail_of, answer_of_one, answer_of_two}
 
 -- how long an answer of a kind is
@@ -73,19 +73,20 @@ record One (kind : Kind) (identity key : List ℕ) (counter : ℕ) (answer : Lis
   signed : SignedBy identity key counter (signed_in 1 0 (drop answer_head answer))
 
 one :
-    (kind : Kind) (identity key : List ℕ) (counter : ℕ) (answer : List ℕ) → Below answer → statements_of kind ≡ 1 →
-    right_size kind (get_or answer 2 0) ≡ (get_or answer 2 0 == 0) → tail_of kind [] [] ≡ [] → head_length kind ≡ answer_head + signed_statement_size →
+    (kind : Kind) (identity key : List ℕ) (counter : ℕ) (answer : List ℕ) → Below answer → has_text kind ≡ false →
     get_or answer 0 0 ≡ number_of_kind kind → get_or answer 1 0 ≡ statements_of kind → right_size kind (get_or answer 2 0) ≡ true →
     length answer ≡ head_length kind + get_or answer 2 0 →
     (signed_in 1 0 (drop answer_head answer)).tag ≡ hmac key (encoded (signed_in 1 0 (drop answer_head answer)).statement) →
     ((signed_in 1 0 (drop answer_head answer)).statement.identity ≡ identity) × ((signed_in 1 0 (drop answer_head answer)).statement.counter ≡ counter) →
     One kind identity key counter answer
-one kind identity key counter answer below single test none head n c fits total tagged from =
+one kind identity key counter answer below no_text n c fits total tagged from =
+    let k = bare_kind kind no_text in
+    let head = k.head_is in
     let rest = drop answer_head answer in
     let l = length-drop answer_head answer in
-    let zero : get_or answer 2 0 ≡ 0 = eqb-true (get_or answer 2 0) 0 (sym test ∙ fits) in
+    let zero : get_or answer 2 0 ≡ 0 = eqb-true (get_or answer 2 0) 0 (sym (k.empty (get_or answer 2 0)) ∙ fits) in
     record {
-      layout = one_layout kind answer [] [] below (omega arith) n (c ∙ single) zero (drop_all signed_statement_size rest (omega arith) ∙ sym none);
+      layout = one_layout kind answer [] [] below (omega arith) n (c ∙ k.single) zero (drop_all signed_statement_size rest (omega arith) ∙ sym k.ends);
       signed = signed_by identity key counter (signed_in 1 0 rest) (read_sized 1 0 rest (omega arith) (omega arith)) tagged from;
     }
 
@@ -114,7 +115,7 @@ row_of Found identity key question answer v below f w k =
       says = sym k.says;
     }
 row_of Skipped identity key question answer v below f w k =
-    let o = one Skipped identity key _ answer below refl refl refl refl f.number_is f.count_is f.size_is w.total_is k.tagged.0 k.origin_is.0 in
+    let o = one Skipped identity key _ answer below refl f.number_is f.count_is f.size_is w.total_is k.tagged.0 k.origin_is.0 in
     record {
       advance = signed_in 1 0 (drop answer_head answer);
       layout = o.layout;
@@ -125,7 +126,7 @@ row_of Skipped identity key question answer v below f w k =
       says = sym k.says;
     }
 row_of Forgotten identity key question answer v below f w k =
-    let o = one Forgotten identity key _ answer below refl refl refl refl f.number_is f.count_is f.size_is w.total_is k.tagged.0 k.origin_is.0 in
+    let o = one Forgotten identity key _ answer below refl f.number_is f.count_is f.size_is w.total_is k.tagged.0 k.origin_is.0 in
     record {
       status = signed_in 1 0 (drop answer_head answer);
       layout = o.layout;
@@ -136,7 +137,7 @@ row_of Forgotten identity key question answer v below f w k =
       says = sym k.says;
     }
 row_of NotYet identity key question answer v below f w k =
-    let o = one NotYet identity key _ answer below refl refl refl refl f.number_is f.count_is f.size_is w.total_is k.tagged.0 k.origin_is.0 in
+    let o = one NotYet identity key _ answer below refl f.number_is f.count_is f.size_is w.total_is k.tagged.0 k.origin_is.0 in
     record {
       status = signed_in 1 0 (drop answer_head answer);
       layout = o.layout;
@@ -170,7 +171,7 @@ row_of End identity key question answer v below f w k =
       says = sym k.says;
     }
 row_of EndOfEmpty identity key question answer v below f w k =
-    let o = one EndOfEmpty identity key _ answer below refl refl refl refl f.number_is f.count_is f.size_is w.total_is k.tagged.0 k.origin_is.0 in
+    let o = one EndOfEmpty identity key _ answer below refl f.number_is f.count_is f.size_is w.total_is k.tagged.0 k.origin_is.0 in
     record {
       status = signed_in 1 0 (drop answer_head answer);
       layout = o.layout;

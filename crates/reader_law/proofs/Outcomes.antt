@@ -180,10 +180,10 @@ outcome i k q n a =
     let total = answer_length (get_or a 0 0) (get_or a 1 0) (get_or a 2 0) in
     let rest = ok_or (kind_of (get_or a 0 0)) WrongForm >>= (λ kind. demanded (right_form q.asked kind (get_or a 1 0) (get_or a 2 0)) WrongForm >>= (λ _. Ok kind)) in
     let P : Result Verdict ReaderFault → Type 0 = λ z. Outcome i k q n a z in
-    at_rule i k q n a room _ _ (working_size ≤ n) (settled 5 _ ShortWorkingArea _ refl (leb_decides _ _)) (λ h. h) (λ h. h) (λ other lt. absurd (omega arith)) (λ b1.
+    at_rule i k q n a room _ _ (working_size ≤ n) (settled (refusal room) _ ShortWorkingArea _ refl (leb_decides _ _)) (λ h. h) (λ h. h) (λ other lt. absurd (omega arith)) (λ b1.
     subst P (regroup (demanded (leb answer_head (length a)) WrongLength) (demanded (eqb (length a) total) WrongLength) rest (decided_by_kind i k q (drop answer_head a)))
     (at_rule i k q n a size _ _ _
-    (both 16 _ _ _ _ (settled 16 _ WrongLength _ refl (leb_decides answer_head (length a))) (settled 16 _ WrongLength _ refl (Decides-eqb (length a) total)))
+    (both (refusal size) _ _ _ _ (settled (refusal size) _ WrongLength _ refl (leb_decides answer_head (length a))) (settled (refusal size) _ WrongLength _ refl (Decides-eqb (length a) total)))
     (λ h. h) (λ h. h) b1 (λ b2.
     form_outcome i k q n a (kind_of (get_or a 0 0)) refl b2)))
   where

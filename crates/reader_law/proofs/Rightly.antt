@@ -1,5 +1,5 @@
 -- An answer that keeps every rule of its kind's row keeps every rule that is tried.
-use Rattle.std.proofs.Common.{◌≡◌, ℕ, ◌+◌, ◌-◌, ◌*◌, ◌≤◌, Bool, true, false, if◌then◌else◌, List, [], ◌∷◌, ◌++◌, length, get_or, drop, sym, refl, ap, ◌∙◌, subst, arith}
+use Rattle.std.proofs.Common.{◌≡◌, ℕ, ◌+◌, ◌-◌, ◌*◌, ◌≤◌, true, false, ◌==◌, List, [], ◌∷◌, ◌++◌, length, get_or, drop, sym, refl, ap, ◌∙◌, subst, arith}
 use Rattle.std.proofs.lemmas.List.{length-append}
 use Rattle.std.proofs.lemmas.Bool.{le-leb}
 use Rattle.digest.specs.Hmac.{hmac}
@@ -70,30 +70,42 @@ three_same :
     (f : ℕ → ℕ → ℕ → ℕ) {x y z n c m : ℕ} → x ≡ n → y ≡ c → z ≡ m → f x y z ≡ f n c m
 three_same f p q r = cc
 
-nothing : (b : Bool) → ◌≡◌ {A = List ℕ} (if b then [] ++ [] else []) []
-nothing true = refl
-nothing false = refl
+-- a kind with no text: one statement, and nothing after it
+pub record BareKind (kind : Kind) : Type 0 where
+  pub single : statements_of kind ≡ 1
+  pub ends : tail_of kind [] [] ≡ []
+  pub empty : (n : ℕ) → right_size kind n ≡ (n == 0)
+  pub head_is : head_length kind ≡ answer_head + signed_statement_size
+  pub total_is : answer_length (number_of_kind kind) 1 0 ≡ answer_head + signed_statement_size
+
+pub bare_kind : (kind : Kind) → has_text kind ≡ false → BareKind kind
+bare_kind Found h = absurd (cc)
+bare_kind Skipped h = record { single = refl; ends = refl; empty = λ n. refl; head_is = refl; total_is = refl }
+bare_kind Forgotten h = record { single = refl; ends = refl; empty = λ n. refl; head_is = refl; total_is = refl }
+bare_kind NotYet h = record { single = refl; ends = refl; empty = λ n. refl; head_is = refl; total_is = refl }
+bare_kind End h = absurd (cc)
+bare_kind EndOfEmpty h = record { single = refl; ends = refl; empty = λ n. refl; head_is = refl; total_is = refl }
 
 -- an answer in the layout of a kind with one statement and no text
 bare :
     (kind : Kind) (answer : List ℕ) (s : SignedStatement) (e : SignedStatement → Evidence) → SizedSigned s →
-    ((xs : List ℕ) → evidence_in kind xs ≡ e (signed_in 1 0 xs)) → right_size kind 0 ≡ true → statements_of kind ≡ 1 →
-    head_length kind ≡ answer_head + signed_statement_size → answer_length (number_of_kind kind) 1 0 ≡ answer_head + signed_statement_size →
+    ((xs : List ℕ) → evidence_in kind xs ≡ e (signed_in 1 0 xs)) → has_text kind ≡ false →
     answer ≡ answer_bytes kind (s ∷ []) [] [] → Reads kind answer [] (e s)
-bare kind answer s e sized shown fits one head total layout =
+bare kind answer s e sized shown no_text layout =
+    let k = bare_kind kind no_text in
     let tail = tail_of kind [] [] in
-    let none : tail ≡ [] = nothing (has_text kind) in
+    let none : tail ≡ [] = k.ends in
     let h = headed_as answer (bytes_of_one s tail) (number_of_kind kind) 1 0 (layout ∙ answer_of_one kind s [] []) in
     let r = one_read (drop answer_head answer) tail s sized h.behind in
     let length_is : length answer ≡ answer_head + signed_statement_size = omega (arith, h.total, ap length h.behind, r.total, ap length none) in
     record {
       number_is = h.first;
-      count_is = h.second ∙ sym one;
-      size_is = ap (right_size kind) h.third ∙ fits;
+      count_is = h.second ∙ sym k.single;
+      size_is = ap (right_size kind) h.third ∙ k.empty 0;
       long = omega arith;
-      total_is = length_is ∙ (sym total ∙ sym (three_same answer_length h.first h.second h.third));
+      total_is = length_is ∙ (sym k.total_is ∙ sym (three_same answer_length h.first h.second h.third));
       shown = shown (drop answer_head answer) ∙ ap e r.first;
-      text_is = ap (λ n. drop (n - answer_head) (drop answer_head answer)) head ∙ (r.behind ∙ none);
+      text_is = ap (λ n. drop (n - answer_head) (drop answer_head answer)) k.head_is ∙ (r.behind ∙ none);
     }
 
 found :
@@ -157,7 +169,7 @@ row_read Skipped identity key question answer v row =
     record {
       text = [];
       evidence = evidence.Skipped row.advance;
-      reads = bare Skipped answer row.advance evidence.Skipped row.signed.sized (λ xs. refl) refl refl refl refl row.layout;
+      reads = bare Skipped answer row.advance evidence.Skipped row.signed.sized (λ xs. refl) refl row.layout;
       keeps = record {
         tagged = (row.signed.signed, tt);
         origin_is = ((row.signed.of_dongle, row.signed.of_counter), tt);
@@ -171,7 +183,7 @@ row_read Forgotten identity key question answer v row =
     record {
       text = [];
       evidence = evidence.Forgotten row.status;
-      reads = bare Forgotten answer row.status evidence.Forgotten row.signed.sized (λ xs. refl) refl refl refl refl row.layout;
+      reads = bare Forgotten answer row.status evidence.Forgotten row.signed.sized (λ xs. refl) refl row.layout;
       keeps = record {
         tagged = (row.signed.signed, tt);
         origin_is = ((row.signed.of_dongle, row.signed.of_counter), tt);
@@ -185,7 +197,7 @@ row_read NotYet identity key question answer v row =
     record {
       text = [];
       evidence = evidence.NotYet row.status;
-      reads = bare NotYet answer row.status evidence.NotYet row.signed.sized (λ xs. refl) refl refl refl refl row.layout;
+      reads = bare NotYet answer row.status evidence.NotYet row.signed.sized (λ xs. refl) refl row.layout;
       keeps = record {
         tagged = (row.signed.signed, tt);
         origin_is = ((row.signed.of_dongle, row.signed.of_counter), tt);
@@ -213,7 +225,7 @@ row_read EndOfEmpty identity key question answer v row =
     record {
       text = [];
       evidence = evidence.EndOfEmpty row.status;
-      reads = bare EndOfEmpty answer row.status evidence.EndOfEmpty row.signed.sized (λ xs. refl) refl refl refl refl row.layout;
+      reads = bare EndOfEmpty answer row.status evidence.EndOfEmpty row.signed.sized (λ xs. refl) refl row.layout;
       keeps = record {
         tagged = (row.signed.signed, tt);
         origin_is = ((row.signed.of_dongle, row.signed.of_counter), tt);

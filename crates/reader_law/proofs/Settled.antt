@@ -12,7 +12,8 @@ use Rattle.reader.specs.declared.evidence.Evidence.TheVariants.{Found, Skipped, 
 use Rattle.reader.specs.Faults.{number_of}
 use Rattle.reader.specs.Evidence.{first_of, second_of}
 use Rattle.reader.specs.Rules.{Said, demanded, ◌>>=◌, on_second, each, tag_rule, origin_rule, nonce_rule, tags, origins, nonces, numbers, digests, counter_for}
-use Rattle.reader_law.specs.Refusals.{AlsoSecond, Every, Fresh, Shows, Digested}
+use Rattle.reader_law.specs.Refusals.{refusal, tag, origin, nonce, digest, AlsoSecond, Every, Fresh, Shows, Digested}
+use Rattle.reader_law.specs.Refusals as laws
 
 -- a rule that passes exactly where T holds, and refuses with one number
 pub record Settles (n : ℕ) (said : Said) (T : Type 0) : Type 0 where
@@ -47,45 +48,45 @@ each_settles n rule P e h = both n _ _ _ _ (h (first_of e) 0) (second (second_of
     second None = free n
     second (Some s) = h s 1
 
-pub tags_settle : (key : List ℕ) (e : Evidence) → Settles 18 (tags key e) (Every (λ s. s.tag ≡ hmac key (encoded s.statement)) e)
-tags_settle key e = each_settles 18 (tag_rule key) _ e (λ s i. settled 18 _ (WrongTag i) _ refl (bytes_eq-Decides _ _))
+pub tags_settle : (key : List ℕ) (e : Evidence) → Settles (refusal tag) (tags key e) (Every (λ s. s.tag ≡ hmac key (encoded s.statement)) e)
+tags_settle key e = each_settles (refusal tag) (tag_rule key) _ e (λ s i. settled (refusal tag) _ (WrongTag i) _ refl (bytes_eq-Decides _ _))
 
 pub origins_settle :
     (identity : List ℕ) (q : ℕ) (e : Evidence) →
-    Settles 19 (origins identity q e) (Every (λ s. (s.statement.identity ≡ identity) × (s.statement.counter ≡ counter_for q e)) e)
+    Settles (refusal origin) (origins identity q e) (Every (λ s. (s.statement.identity ≡ identity) × (s.statement.counter ≡ counter_for q e)) e)
 origins_settle identity q e =
-    each_settles 19 (origin_rule identity (counter_for q e)) _ e
-    (λ s i. settled 19 _ (WrongOrigin i) _ refl (Decides-and _ _ (bytes_eq-Decides _ _) (Decides-eqb _ _)))
+    each_settles (refusal origin) (origin_rule identity (counter_for q e)) _ e
+    (λ s i. settled (refusal origin) _ (WrongOrigin i) _ refl (Decides-and _ _ (bytes_eq-Decides _ _) (Decides-eqb _ _)))
 
-fresh : (n : List ℕ) (s : SignedStatement) → Settles 20 (nonce_rule n s) (s.statement.matter ≡ n)
-fresh n s = settled 20 _ (WrongNonce 0) _ refl (bytes_eq-Decides _ _)
+fresh : (n : List ℕ) (s : SignedStatement) → Settles (refusal nonce) (nonce_rule n s) (s.statement.matter ≡ n)
+fresh n s = settled (refusal nonce) _ (WrongNonce 0) _ refl (bytes_eq-Decides _ _)
 
-pub nonces_settle : (n : List ℕ) (e : Evidence) → Settles 20 (nonces n e) (Fresh n e)
-nonces_settle n (Found a d) = free 20
-nonces_settle n (Skipped a) = free 20
+pub nonces_settle : (n : List ℕ) (e : Evidence) → Settles (refusal nonce) (nonces n e) (Fresh n e)
+nonces_settle n (Found a d) = free (refusal nonce)
+nonces_settle n (Skipped a) = free (refusal nonce)
 nonces_settle n (Forgotten s) = fresh n s
 nonces_settle n (NotYet s) = fresh n s
 nonces_settle n (End s a d) = fresh n s
 nonces_settle n (EndOfEmpty s) = fresh n s
 
-shown : (b : Bool) (i : ℕ) (T : Type 0) → Decides b T → Settles 21 (demanded b (WrongNumbers i)) T
-shown b i T d = settled 21 b (WrongNumbers i) T refl d
+shown : (b : Bool) (i : ℕ) (T : Type 0) → Decides b T → Settles (refusal laws.numbers) (demanded b (WrongNumbers i)) T
+shown b i T d = settled (refusal laws.numbers) b (WrongNumbers i) T refl d
 
-pub numbers_settle : (p : ℕ) (e : Evidence) → Settles 21 (numbers p e) (Shows p e)
+pub numbers_settle : (p : ℕ) (e : Evidence) → Settles (refusal laws.numbers) (numbers p e) (Shows p e)
 numbers_settle p (Found a d) = shown _ 0 _ (Decides-and _ _ (Decides-ltb _ _) (Decides-eqb _ _))
 numbers_settle p (Skipped a) = shown _ 0 _ (Decides-and _ _ (Decides-ltb _ _) (Decides-and _ _ (Decides-ltb _ _) (Decides-ltb _ _)))
 numbers_settle p (Forgotten s) = shown _ 0 _ (Decides-and _ _ (Decides-eqb _ _) (Decides-ltb _ _))
 numbers_settle p (NotYet s) = shown _ 0 _ (Decides-and _ _ (Decides-eqb _ _) (Decides-ltb _ _))
 numbers_settle p (End s a d) =
-    both 21 _ _ _ _
+    both (refusal laws.numbers) _ _ _ _
     (shown _ 0 _ (Decides-and _ _ (Decides-eqb _ _) (Decides-ltb _ _)))
     (shown _ 1 _ (Decides-and _ _ (Decides-ltb _ _) (Decides-eqb _ _)))
 numbers_settle p (EndOfEmpty s) = shown _ 0 _ (Decides-and _ _ (Decides-eqb _ _) (Decides-eqb _ _))
 
-pub digests_settle : (q : ℕ) (text : List ℕ) (e : Evidence) → Settles 22 (digests q text e) (Digested q text e)
-digests_settle q text (Found a d) = settled 22 _ (WrongDigest 0) _ refl (bytes_eq-Decides _ _)
-digests_settle q text (Skipped a) = free 22
-digests_settle q text (Forgotten s) = free 22
-digests_settle q text (NotYet s) = free 22
-digests_settle q text (End s a d) = settled 22 _ (WrongDigest 1) _ refl (bytes_eq-Decides _ _)
-digests_settle q text (EndOfEmpty s) = free 22
+pub digests_settle : (q : ℕ) (text : List ℕ) (e : Evidence) → Settles (refusal digest) (digests q text e) (Digested q text e)
+digests_settle q text (Found a d) = settled (refusal digest) _ (WrongDigest 0) _ refl (bytes_eq-Decides _ _)
+digests_settle q text (Skipped a) = free (refusal digest)
+digests_settle q text (Forgotten s) = free (refusal digest)
+digests_settle q text (NotYet s) = free (refusal digest)
+digests_settle q text (End s a d) = settled (refusal digest) _ (WrongDigest 1) _ refl (bytes_eq-Decides _ _)
+digests_settle q text (EndOfEmpty s) = free (refusal digest)
