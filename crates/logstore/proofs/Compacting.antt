@@ -22,20 +22,6 @@ pub record Compacting (p : Bytes → Bool) (start : List ℕ) (count : ℕ) (are
   pub long : length area ≡ length start
   pub few : kept + left ≤ count
 
-pub compacting_none : (p : Bytes → Bool) (start : List ℕ) (count : ℕ) → Layout count start → Compacting p start count start 0 0 0 count
-compacting_none p start count l =
-    record {
-      lies = l;
-      same = refl;
-      front = refl;
-      number = zero-add _;
-      reach = zero-add _;
-      behind = omega arith;
-      within = omega arith;
-      long = refl;
-      few = omega arith;
-    }
-
 -- the first of the records that are left lies within the area
 pub next_inside :
     (p : Bytes → Bool) (start : List ℕ) (count : ℕ) (area : List ℕ) (at used kept left : ℕ) →
