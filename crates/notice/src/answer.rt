@@ -1,6 +1,6 @@
 // The kinds of answers, and how long an answer is.
 ghost use Rattle.std.specs.Prelude.{◌≡◌};
-ghost use Rattle.notice.specs.Answer.{number_of_kind, kind_read, statements_of, has_text, answer_length};
+ghost use Rattle.notice.specs.Answer.{number_of_kind, kind_read, statements_of, has_text, head_length, answer_length};
 
 use super::limits::{ANSWER_HEAD, PREVIOUS_SIZE};
 use statement::SIGNED_STATEMENT_SIZE;
@@ -77,6 +77,19 @@ impl Kind {
         match self {
             Kind::Found | Kind::End => true,
             Kind::Skipped | Kind::Forgotten | Kind::NotYet | Kind::EndOfEmpty => false,
+        }
+    }
+
+    /// The length in bytes of what stands before the text in an answer of this kind, or of the whole answer
+    /// where it has no text.
+    pub fn head_length(&self) -> usize
+        ensures answers { result ≡ head_length self.now }
+    {
+        let shown = ANSWER_HEAD + SIGNED_STATEMENT_SIZE * usize::from(self.statements());
+        if self.has_text() {
+            shown + PREVIOUS_SIZE
+        } else {
+            shown
         }
     }
 }
