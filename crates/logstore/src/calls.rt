@@ -96,6 +96,7 @@ impl<'a> Store for LogStore<'a> {
 
     ghost fits = { log_fits };
 
+    // As in the other store: shared, it would call `append`, which requires of a record what only its store knows.
     fn put(&mut self, record: &[u8]) -> Result<(), StoreFault>
         ensures answers { result ≡ putting (log_fits self.old (length «record».now)) (log_held self.old) «record».now }
         ensures becomes { log_held self.new ≡ after_put (log_fits self.old (length «record».now)) (log_held self.old) «record».now }
@@ -130,6 +131,7 @@ impl<'a> Store for LogStore<'a> {
         self.held.count
     }
 
+    // As in the other store: shared, it would be a public call that requires what is found to be short.
     #[tactic(auto, unfolding(store::specs::Meaning::covering, store::specs::Meaning::covered))]
     fn cover(&self, queue: u8, position: u32, area: &mut [u8]) -> Result<Option<usize>, StoreFault>
         ensures answers { result ≡ covering (log_held self.now) queue position area.old }
