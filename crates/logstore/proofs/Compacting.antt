@@ -1,5 +1,5 @@
 -- The invariant of a pass that moves the records that stay together, its start, its steps and its end.
-use Rattle.std.proofs.Common.{◌≡◌, ℕ, ◌+◌, ◌-◌, ◌<◌, ◌≤◌, Bool, true, false, List, ◌∷◌, ◌++◌, length, take, drop, replicate, filter, sym, refl, ap, ◌∙◌, subst, append_assoc, zero-add, arith}
+use Rattle.std.proofs.Common.{◌≡◌, ℕ, ◌+◌, ◌-◌, ◌<◌, ◌≤◌, Bool, true, false, List, ◌∷◌, ◌++◌, length, take, drop, replicate, filter, sym, ap, ◌∙◌, subst, append_assoc, arith}
 use Rattle.std.proofs.lemmas.Bool.{cond-true, cond-false}
 use Rattle.std.proofs.lemmas.List.{drop-drop, append-nil, length-append, length-drop, length-take-le}
 use borrow.Rule.Slice.PartMut.{put_mid}
@@ -21,20 +21,6 @@ pub record Compacting (p : Bytes → Bool) (start : List ℕ) (count : ℕ) (are
   pub within : at ≤ length area
   pub long : length area ≡ length start
   pub few : kept + left ≤ count
-
-pub compacting_none : (p : Bytes → Bool) (start : List ℕ) (count : ℕ) → Layout count start → Compacting p start count start 0 0 0 count
-compacting_none p start count l =
-    record {
-      lies = l;
-      same = refl;
-      front = refl;
-      number = zero-add _;
-      reach = zero-add _;
-      behind = omega arith;
-      within = omega arith;
-      long = refl;
-      few = omega arith;
-    }
 
 -- the first of the records that are left lies within the area
 pub next_inside :

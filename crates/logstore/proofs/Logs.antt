@@ -1,11 +1,18 @@
 -- One record of a log and the rest of it.
 use Rattle.std.proofs.Common.{◌≡◌, ℕ, zero, suc, ◌+◌, ◌-◌, ◌*◌, ◌<◌, ◌≤◌, leb, List, [], ◌∷◌, ◌++◌, length, slice_index, take, drop, sym, ap, ◌∙◌, subst, append_assoc, w16, arith}
-use Rattle.std.specs.Int.{to_be_bytes}
+use Rattle.std.specs.Int.{from_be_bytes, to_be_bytes}
 use Rattle.std.proofs.lemmas.List.{drop-drop, length-drop, length-take-le}
 use Rattle.std.proofs.lemmas.Slice.{take-put_mid, drop-put_mid}
 use borrow.Rule.Slice.PartMut.{put_mid}
 use Rattle.std.proofs.lemmas.Bool.{and_parts, leb-true}
 use Rattle.logstore.specs.Log.{length_size, log_limit, two, framed, size_at, first, rest, parse, Layout}
+
+-- the length that the first two bytes are
+pub size_in_front : (xs bytes : List ℕ) → xs ≡ take 2 bytes → 2 ≤ length bytes → from_be_bytes w16 xs ≡ size_at bytes
+unfolding size_at
+size_in_front xs [] e h = absurd (omega arith)
+size_in_front xs (a ∷ []) e h = absurd (omega arith)
+size_in_front xs (a ∷ b ∷ bytes) e h = rw e (omega arith)
 
 pub length_first : (bytes : List ℕ) → length_size + size_at bytes ≤ length bytes → length (first bytes) ≡ size_at bytes
 unfolding first

@@ -19,11 +19,11 @@ use store::{Store, StoreFault, admit};
 /// The bytes of the largest area that a log can use.
 const LOG_LIMIT: usize = 65536;
 
-/// How much of an area of a size a log uses: all, or none of one that is too long.
-fn usable(size: usize) -> Option<usize>
-    ensures answers { result ≡ (if nat_le size log_limit then Some size else None) }
+/// Whether a log can use an area of so many bytes.
+fn is_usable(size: usize) -> bool
+    ensures answers { result ≡ nat_le size log_limit }
 {
-    if size <= LOG_LIMIT { Some(size) } else { None }
+    size <= LOG_LIMIT
 }
 
 impl<'a> LogStore<'a> {
@@ -33,12 +33,12 @@ impl<'a> LogStore<'a> {
         ensures room { log_room result ≡ log_space (length area.old) }
         ensures area { log_area result ≡ replicate (log_space (length area.old)) 0 ++ drop (log_space (length area.old)) area.old }
     {
-        if let Some(room) = usable(area.len()) {
-            area[..room].fill(0);
+        if is_usable(area.len()) {
+            area.fill(0);
         }
         LogStore {
             area,
-            held: Extent { used: 0, count: 0 },
+            held: Extent::default(),
         }
     }
 
@@ -46,10 +46,7 @@ impl<'a> LogStore<'a> {
     pub fn area_fault(&self) -> Option<StoreFault>
         ensures answers { result ≡ (if nat_le (length (log_area self.now)) log_limit then None else Some WrongArea) }
     {
-        match usable(self.area.len()) {
-            Some(_) => None,
-            None => Some(StoreFault::WrongArea),
-        }
+        (!is_usable(self.area.len())).then_some(StoreFault::WrongArea)
     }
 
     /// The records, in the order put.
@@ -89,12 +86,8 @@ impl<'a> LogStore<'a> {
         ensures becomes { log_held self.new ≡ log_held self.old ++ «record».now ∷ [] }
         ensures log { Kept self.old self.new }
     {
-        let Extent { used, count } = self.held;
-        lay(self.area, used, record);
-        self.held = Extent {
-            used: used + (LENGTH_SIZE + record.len()),
-            count: count + 1,
-        };
+        lay(self.area, self.held.used, record);
+        self.held = self.held.with(record.len());
     }
 }
 
@@ -103,6 +96,7 @@ impl<'a> Store for LogStore<'a> {
 
     ghost fits = { log_fits };
 
+    // As in the other store: shared, it would call `append`, which requires of a record what only its store knows.
     fn put(&mut self, record: &[u8]) -> Result<(), StoreFault>
         ensures answers { result ≡ putting (log_fits self.old (length «record».now)) (log_held self.old) «record».now }
         ensures becomes { log_held self.new ≡ after_put (log_fits self.old (length «record».now)) (log_held self.old) «record».now }
@@ -124,11 +118,10 @@ impl<'a> Store for LogStore<'a> {
         ensures answers { result ≡ log_fits self.now size }
         ensures log { result ≡ log_takes (log_room self.now) (log_held self.now) size }
     {
-        let Some(room) = usable(self.area.len()) else {
-            return false;
-        };
-        let free = room - self.held.used;
-        free >= LENGTH_SIZE && size <= free - LENGTH_SIZE
+        is_usable(self.area.len())
+            && (self.area.len() - self.held.used)
+                .checked_sub(LENGTH_SIZE)
+                .is_some_and(|free| size <= free)
     }
 
     #[tactic(auto, using(crate::proofs::Images::length_parse))]
@@ -138,6 +131,7 @@ impl<'a> Store for LogStore<'a> {
         self.held.count
     }
 
+    // As in the other store: shared, it would be a public call that requires what is found to be short.
     #[tactic(auto, unfolding(store::specs::Meaning::covering, store::specs::Meaning::covered))]
     fn cover(&self, queue: u8, position: u32, area: &mut [u8]) -> Result<Option<usize>, StoreFault>
         ensures answers { result ≡ covering (log_held self.now) queue position area.old }

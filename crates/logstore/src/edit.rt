@@ -32,18 +32,16 @@ pub(crate) fn compact(area: &mut [u8], held: Extent, queue: u8, below: u32) -> E
     ensures less { result.used ≤ held.used }
 {
     let mut at = 0;
-    let mut kept = Extent { used: 0, count: 0 };
+    let mut kept = Extent::default();
     for _ in 0..held.count {
         let (record, _) = split_first_record(&area[at..]);
-        let size = LENGTH_SIZE + record.len();
+        let size = record.len();
+        let next = at + (LENGTH_SIZE + size);
         if Record::from(record).span().is_kept(queue, below) {
-            area.copy_within(at..at + size, kept.used);
-            kept = Extent {
-                used: kept.used + size,
-                count: kept.count + 1,
-            };
+            area.copy_within(at..next, kept.used);
+            kept = kept.with(size);
         }
-        at += size;
+        at = next;
     }
     area[kept.used..held.used].fill(0);
     kept

@@ -6,17 +6,8 @@ ghost use Rattle.logstore.specs.Log.{length_size, framed, size_at, first, rest, 
 /// The bytes of the length before each record.
 pub(crate) const LENGTH_SIZE: usize = 2;
 
-/// The length in the first two bytes, high byte first.
-#[tactic(auto, unfolding(crate::specs::Log::size_at))]
-fn size_at(bytes: &[u8]) -> usize
-    requires inside { length_size ≤ length bytes.now }
-    ensures answers { result ≡ size_at bytes.now }
-{
-    usize::from(u16::from_be_bytes([bytes[0], bytes[1]]))
-}
-
 /// The first record, and what follows it.
-#[tactic(auto, unfolding(crate::specs::Log::first, crate::specs::Log::rest), using(crate::proofs::Logs::length_first, crate::proofs::Logs::framed_first))]
+#[tactic(auto, unfolding(crate::specs::Log::first, crate::specs::Log::rest), using(crate::proofs::Logs::size_in_front, crate::proofs::Logs::length_first, crate::proofs::Logs::framed_first))]
 pub(crate) fn split_first_record(bytes: &[u8]) -> (&[u8], &[u8])
     requires inside { length_size + size_at bytes.now ≤ length bytes.now }
     ensures first { result.0.now ≡ first bytes.now }
@@ -24,8 +15,8 @@ pub(crate) fn split_first_record(bytes: &[u8]) -> (&[u8], &[u8])
     ensures size { length (first bytes.now) ≡ size_at bytes.now }
     ensures framed { framed (first bytes.now) ≡ take (length_size + size_at bytes.now) bytes.now }
 {
-    let size = size_at(bytes);
-    bytes[LENGTH_SIZE..].split_at(size)
+    let (size, others) = bytes.split_first_chunk::<LENGTH_SIZE>().unwrap();
+    others.split_at(usize::from(u16::from_be_bytes(*size)))
 }
 
 /// The records that are left of so many.

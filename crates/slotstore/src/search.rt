@@ -1,5 +1,5 @@
 // Searches over rows.
-ghost use Rattle.std.specs.Prelude.{◌≡◌, ◌≤◌, length, not, take};
+ghost use Rattle.std.specs.Prelude.{◌≡◌, not};
 ghost use Rattle.std.specs.List.{position, list_any};
 ghost use Rattle.notice.specs.Spans.{span_contains, spans_meet, span_is_kept};
 ghost use Rattle.slotstore.specs.Rows.{row_span};
@@ -22,11 +22,9 @@ pub(crate) fn first_below(rows: &[Row], queue: u8, below: u32) -> Option<usize>
         .position(|row| !row.span().is_kept(queue, below))
 }
 
-// Over rows and their number in use, so that one search can serve other rows too.
-// Whether one of the first rows is of the span's lane and shares a position with it.
-pub(crate) fn is_spanned(rows: &[Row], used: usize, span: &Span) -> bool
-    requires within { used ≤ length rows.now }
-    ensures answers { result ≡ list_any (λ row. spans_meet (row_span row) span.now) (take used rows.now) }
+// Whether one of the rows is of the span's lane and shares a position with it.
+pub(crate) fn is_spanned(rows: &[Row], span: &Span) -> bool
+    ensures answers { result ≡ list_any (λ row. spans_meet (row_span row) span.now) rows.now }
 {
-    rows[..used].iter().any(|row| row.span().meets(span))
+    rows.iter().any(|row| row.span().meets(span))
 }

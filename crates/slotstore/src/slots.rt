@@ -53,10 +53,7 @@ impl<'a> SlotStore<'a> {
     pub fn area_fault(&self) -> Option<StoreFault>
         ensures answers { result ≡ (if is_slot_area (length (slot_area self.now)) (length (slot_rows self.now)) then None else Some WrongArea) }
     {
-        if is_slot_area(self.area.len(), self.rows.len()) {
-            return None;
-        }
-        Some(StoreFault::WrongArea)
+        (!is_slot_area(self.area.len(), self.rows.len())).then_some(StoreFault::WrongArea)
     }
 
     // Whether a slot is free.
@@ -90,7 +87,7 @@ impl<'a> SlotStore<'a> {
     fn is_spanned(&self, span: &Span) -> bool
         ensures answers { result ≡ any_meets span.now (slot_held self.now) }
     {
-        is_spanned(self.rows, self.used, span)
+        is_spanned(&self.rows[..self.used], span)
     }
 
     // Puts a record into the next slot.
@@ -136,6 +133,7 @@ impl<'a> Store for SlotStore<'a> {
 
     ghost fits = { slot_fits };
 
+    // As in the other store: shared, it would call `append`, which requires of a record what only its store knows.
     fn put(&mut self, record: &[u8]) -> Result<(), StoreFault>
         ensures answers { result ≡ putting (slot_fits self.old (length «record».now)) (slot_held self.old) «record».now }
         ensures becomes { slot_held self.new ≡ after_put (slot_fits self.old (length «record».now)) (slot_held self.old) «record».now }
@@ -169,6 +167,7 @@ impl<'a> Store for SlotStore<'a> {
         self.used
     }
 
+    // As in the other store: shared, it would be a public call that requires what is found to be short.
     #[tactic(auto, unfolding(store::specs::Meaning::covering, store::specs::Meaning::covered))]
     fn cover(&self, queue: u8, position: u32, area: &mut [u8]) -> Result<Option<usize>, StoreFault>
         ensures answers { result ≡ covering (slot_held self.now) queue position area.old }

@@ -1,42 +1,27 @@
-use Rattle.std.proofs.Common.{arith, ◌≡◌, length, Ok, Err, sym, ◌∙◌}
+use Rattle.std.proofs.Common.{◌∙◌, arith}
 use Rattle.std.proofs.lemmas.Grind.{common_steps}
-use Rattle.store.specs.Meaning.{putting}
-use Rattle.store.proofs.Puts.{admitting-putting, put-passed, after-put-ok, after-put-err}
-use Rattle.logstore.specs.LogStores.{log_held, log_fits}
+use Rattle.store.proofs.Puts.{admitted, refused}
 use Rattle.logstore.proofs.calls.LogStoreStore.put.Goals as goal
 
 pub append-requires : goal.append-requires
 append-requires c =
-    let s = c.args.self.now in
-    let r = c.args.record.now in
-    let same = admitting-putting (log_fits s (length r)) (log_held s) r c.from-parsed.ensures c.span.ensures.answers c.is_spanned.ensures.answers c.takes.ensures.answers in
-    let p = put-passed (log_fits s (length r)) (log_held s) r (sym same ∙ sym c.in_ok-admit.ensures.answers) in
-    record { good = p.0; free = p.1; fits = p.2 }
+    let m = admitted _ _ _ c.from-parsed.ensures c.span.ensures.answers c.is_spanned.ensures.answers c.takes.ensures.answers c.in_ok-admit.ensures.answers in
+    record { good = m.good; free = m.free; fits = m.fitting }
 
 pub returns-in_err-admit-clause-answers : goal.returns-in_err-admit-clause-answers
 returns-in_err-admit-clause-answers c =
-    let s = c.args.self.now in
-    let r = c.args.record.now in
-    let same = admitting-putting (log_fits s (length r)) (log_held s) r c.from-parsed.ensures c.span.ensures.answers c.is_spanned.ensures.answers c.takes.ensures.answers in
-    rw (← same) (grind (arith, common_steps))
+    let m = refused _ _ _ c.from-parsed.ensures c.span.ensures.answers c.is_spanned.ensures.answers c.takes.ensures.answers c.in_err-admit.field-0.0 c.in_err-admit.ensures.answers in
+    rw (← m.answers) (grind (arith, common_steps))
 
 pub returns-in_err-admit-clause-becomes : goal.returns-in_err-admit-clause-becomes
 returns-in_err-admit-clause-becomes c =
-    let s = c.args.self.now in
-    let r = c.args.record.now in
-    let same = admitting-putting (log_fits s (length r)) (log_held s) r c.from-parsed.ensures c.span.ensures.answers c.is_spanned.ensures.answers c.takes.ensures.answers in
-    sym (after-put-err (log_fits s (length r)) (log_held s) r c.in_err-admit.field-0.0 (sym same ∙ sym c.in_err-admit.ensures.answers))
+    (refused _ _ _ c.from-parsed.ensures c.span.ensures.answers c.is_spanned.ensures.answers c.takes.ensures.answers c.in_err-admit.field-0.0 c.in_err-admit.ensures.answers).becomes
 
 pub returns-clause-answers : goal.returns-clause-answers
 returns-clause-answers c =
-    let s = c.args.self.now in
-    let r = c.args.record.now in
-    let same = admitting-putting (log_fits s (length r)) (log_held s) r c.from-parsed.ensures c.span.ensures.answers c.is_spanned.ensures.answers c.takes.ensures.answers in
-    c.in_ok-admit.ensures.answers ∙ same
+    (admitted _ _ _ c.from-parsed.ensures c.span.ensures.answers c.is_spanned.ensures.answers c.takes.ensures.answers c.in_ok-admit.ensures.answers).answers
 
 pub returns-clause-becomes : goal.returns-clause-becomes
 returns-clause-becomes c =
-    let s = c.args.self.now in
-    let r = c.args.record.now in
-    let same = admitting-putting (log_fits s (length r)) (log_held s) r c.from-parsed.ensures c.span.ensures.answers c.is_spanned.ensures.answers c.takes.ensures.answers in
-    c.append.ensures.becomes ∙ sym (after-put-ok (log_fits s (length r)) (log_held s) r (sym same ∙ sym c.in_ok-admit.ensures.answers))
+    let m = admitted _ _ _ c.from-parsed.ensures c.span.ensures.answers c.is_spanned.ensures.answers c.takes.ensures.answers c.in_ok-admit.ensures.answers in
+    c.append.ensures.becomes ∙ m.becomes

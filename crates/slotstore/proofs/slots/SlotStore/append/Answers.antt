@@ -16,12 +16,7 @@ invariant_of-self c =
     let m = put_store c.args.self.now _ _ _ (length c.args.bytes.now) c.args.bytes.now c.requires.good c.requires.free c.requires.fits c.fill_next.ensures.area c.fill_next.ensures.rows c.fill_next.ensures.used (omega arith) (omega arith) in
     record { sound = m.sound }
 
-pub returns-clause-becomes : goal.returns-clause-becomes
-returns-clause-becomes c =
+pub returns : goal.returns
+returns c =
     let m = put_store c.args.self.now _ _ _ (length c.args.bytes.now) c.args.bytes.now c.requires.good c.requires.free c.requires.fits c.fill_next.ensures.area c.fill_next.ensures.rows c.fill_next.ensures.used (omega arith) (omega arith) in
-    m.shows
-
-pub returns-clause-keeps : goal.returns-clause-keeps
-returns-clause-keeps c =
-    let m = put_store c.args.self.now _ _ _ (length c.args.bytes.now) c.args.bytes.now c.requires.good c.requires.free c.requires.fits c.fill_next.ensures.area c.fill_next.ensures.rows c.fill_next.ensures.used (omega arith) (omega arith) in
-    store_kept c.args.self.now _ _ m
+    record { becomes = m.shows; keeps = store_kept c.args.self.now _ _ m }

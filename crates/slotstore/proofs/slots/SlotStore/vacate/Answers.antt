@@ -7,12 +7,7 @@ invariant_of-self c =
     let m = vacate_store c.args.self.now _ _ _ c.args.index c.requires c.move_last.ensures.area c.move_last.ensures.rows c.move_last.ensures.used (omega arith) (omega arith) in
     record { sound = m.sound }
 
-pub returns-clause-becomes : goal.returns-clause-becomes
-returns-clause-becomes c =
+pub returns : goal.returns
+returns c =
     let m = vacate_store c.args.self.now _ _ _ c.args.index c.requires c.move_last.ensures.area c.move_last.ensures.rows c.move_last.ensures.used (omega arith) (omega arith) in
-    m.shows
-
-pub returns-clause-keeps : goal.returns-clause-keeps
-returns-clause-keeps c =
-    let m = vacate_store c.args.self.now _ _ _ c.args.index c.requires c.move_last.ensures.area c.move_last.ensures.rows c.move_last.ensures.used (omega arith) (omega arith) in
-    store_kept c.args.self.now _ _ m
+    record { becomes = m.shows; fewer = omega arith; keeps = store_kept c.args.self.now _ _ m }

@@ -38,14 +38,9 @@ loop-index-preserved c =
       within = omega (arith, m.inside, length-slot_held s, fewer);
     }
 
-pub returns-clause-becomes : goal.returns-clause-becomes
-returns-clause-becomes c =
+pub returns : goal.returns
+returns c =
     let s = c.loop-index.self in
     let within : c.loop-index.from ≤ length (slot_held s) = omega (arith, length-slot_held s, c.loop-index.invariant.within) in
-    (swept_done (stays c.args.queue c.args.below) (slot_held c.args.self.now) (slot_held s) c.loop-index.from _ within refl c.in_default.ensures.answers c.loop-index.invariant.rest).stays
-
-pub returns-clause-order : goal.returns-clause-order
-returns-clause-order c =
-    let s = c.loop-index.self in
-    let within : c.loop-index.from ≤ length (slot_held s) = omega (arith, length-slot_held s, c.loop-index.invariant.within) in
-    (swept_done (stays c.args.queue c.args.below) (slot_held c.args.self.now) (slot_held s) c.loop-index.from _ within refl c.in_default.ensures.answers c.loop-index.invariant.rest).order
+    let m = swept_done (stays c.args.queue c.args.below) (slot_held c.args.self.now) (slot_held s) c.loop-index.from _ within refl c.in_default.ensures.answers c.loop-index.invariant.rest in
+    record { becomes = m.stays; order = m.order; slots = c.loop-index.invariant.kept }
