@@ -35,6 +35,7 @@ pub fn count_words(line: &[u8]) -> usize
 }
 
 /// The words of a line, in their order.
+// A struct, since no `impl Iterator` can be handed out.
 #[derive(Drop)]
 pub struct Words<'a> {
     rest: &'a [u8],
