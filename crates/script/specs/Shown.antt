@@ -1,5 +1,5 @@
 -- Byte strings as they are printed.
-use Rattle.std.specs.Prelude.{ℕ, ◌+◌, ◌/◌, ◌%◌, Bool, if◌then◌else◌, List, [], ◌∷◌, ◌++◌, replicate, decimal, ◌==◌, nat_le, nat_lt, Option, None, Some}
+use Rattle.std.specs.Prelude.{ℕ, ◌+◌, ◌/◌, ◌%◌, if◌then◌else◌, List, [], ◌∷◌, ◌++◌, replicate, decimal, ◌==◌, nat_le, nat_lt, Option, None, Some}
 use Rattle.std.specs.List.{flat_map}
 use Rattle.script.specs.declared.show.RunForm.{RunForm}
 use Rattle.script.specs.declared.show.RunForm.TheVariants.{Plain, Counted}
