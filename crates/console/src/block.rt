@@ -20,6 +20,7 @@ fn closes(line: &[u8]) -> Result<bool, Bad> {
 }
 
 /// Runs the lines of a block.
+// Not `for line in &mut *lines`: what such a loop leaves of the script is not known after it, and `reads` got no proof.
 pub(crate) fn run_block<F: FnMut(&[u8], &mut Page) -> Result<(), Stop>>(
     lines: &mut Lines,
     page: &mut Page,

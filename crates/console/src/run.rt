@@ -37,6 +37,8 @@ impl TryFrom<&[u8]> for Command {
 }
 
 /// One command, which may read more lines.
+// The script and the page are two parameters, and no struct of both: what runs a line gets the page and not the script,
+// so the struct would be taken apart at every block.
 fn run_command(line: &[u8], lines: &mut Lines, page: &mut Page) -> Result<(), Stop>
     ensures reads { left lines.new ≤ left lines.old }
 {

@@ -162,10 +162,10 @@ fn say_row(page: &mut Page, place: usize, row: Row) -> Result<(), AllocError> {
     page.say(format_args!("row {place} queue {queue} old {old} new {new} length {length}"))
 }
 
-/// A line for each row that tells of a record.
+/// A line for each row that is not free.
 pub fn say_rows(page: &mut Page, rows: &[Row]) -> Result<(), AllocError> {
     for (place, row) in rows.iter().enumerate() {
-        if row.length != 0 {
+        if *row != Row::default() {
             say_row(page, place, *row)?;
         }
     }

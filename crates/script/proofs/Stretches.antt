@@ -1,13 +1,13 @@
 -- The first run of a byte string.
-use Rattle.std.proofs.Common.{◌≡◌, ℕ, zero, suc, ◌+◌, ◌-◌, ◌<◌, ◌≤◌, true, false, List, [], ◌∷◌, ◌++◌, length, get_or, drop, sym, refl, ap, ◌∙◌, subst, ⊎_elim, append_assoc, one-add, add-one, arith, length-append}
+use Rattle.std.proofs.Common.{◌≡◌, ℕ, zero, suc, ◌+◌, ◌-◌, ◌<◌, ◌≤◌, true, false, List, [], ◌∷◌, ◌++◌, length, get_or, drop, Option, Some, sym, refl, ap, ◌∙◌, subst, ⊎_elim, append_assoc, one-add, add-one, arith, length-append}
 use Rattle.std.specs.Prelude.{◌==◌}
 use Rattle.std.specs.List.{AllAdjacentBelow, IsChunkByPrefix}
 use Rattle.std.proofs.lemmas.Bool.{eq-eqb, eqb-true, eqb-false, ne_eqb, cases_eq, cond-true, cond-false}
 use Rattle.std.proofs.lemmas.List.Sums.{prefix_len_is}
 use Rattle.std.proofs.Math.Seq.{drop-append_seam}
 use Rattle.script.specs.Words.{run_len}
-use Rattle.script.specs.declared.show.Before.{Before}
-use Rattle.script.specs.Shown.{Stretch, stretch, stretches, lengthened, shown_from, separator, counted, run_text, next_before}
+use Rattle.script.specs.declared.show.RunForm.{RunForm}
+use Rattle.script.specs.Shown.{Stretch, stretch, stretches, lengthened, shown_from, separator, run_text, form_of}
 
 -- one byte more in front of runs that begin with the same byte, or with another
 again : (x n : ℕ) (gs : List Stretch) →
@@ -77,10 +77,10 @@ front_run x xs n m same stops =
     ne_eqb (get_or xs n 0) x (λ e. eqb-false (get_or (x ∷ xs) n 0) (get_or xs n 0) (stops h) (first n (omega arith) ∙ sym e))))
 
 -- what is printed of bytes that begin with such a front
-pub shown_part : (before : Before) (bytes part rest : List ℕ) → bytes ≡ part ++ rest → 0 < length part → IsChunkByPrefix (λ b c. b == c) bytes (length part)
+pub shown_part : (before : Option RunForm) (bytes part rest : List ℕ) → bytes ≡ part ++ rest → 0 < length part → IsChunkByPrefix (λ b c. b == c) bytes (length part)
     → shown_from before (stretches bytes)
-    ≡ separator before (counted (length part))
-    ++ (run_text (get_or part 0 0) (length part) ++ shown_from (next_before (length part)) (stretches rest))
+    ≡ separator before (form_of (length part))
+    ++ (run_text (form_of (length part)) (get_or part 0 0) (length part) ++ shown_from (Some (form_of (length part))) (stretches rest))
 shown_part before bytes [] rest e h front = absurd (omega arith)
 shown_part before bytes (x ∷ part) rest e h front =
     let n = length part in
@@ -93,9 +93,9 @@ shown_part before bytes (x ∷ part) rest e h front =
     let run = front_run x xs n fits whole.0 stops in
     let after : drop n xs ≡ rest = drop-append_seam part rest in
     ap (shown_from before) (ap stretches e ∙ first-stretch x xs)
-    ∙ ap (λ k. separator before (counted (1 + k)) ++ (run_text x (1 + k) ++ shown_from (next_before (1 + k)) (stretches (drop k xs)))) (sym run)
-    ∙ ap (λ k. separator before (counted k) ++ (run_text x k ++ shown_from (next_before k) (stretches (drop n xs)))) (one-add n)
-    ∙ ap (λ left. separator before (counted (suc n)) ++ (run_text x (suc n) ++ shown_from (next_before (suc n)) (stretches left))) after
+    ∙ ap (λ k. separator before (form_of (1 + k)) ++ (run_text (form_of (1 + k)) x (1 + k) ++ shown_from (Some (form_of (1 + k))) (stretches (drop k xs)))) (sym run)
+    ∙ ap (λ k. separator before (form_of k) ++ (run_text (form_of k) x k ++ shown_from (Some (form_of k)) (stretches (drop n xs)))) (one-add n)
+    ∙ ap (λ left. separator before (form_of (suc n)) ++ (run_text (form_of (suc n)) x (suc n) ++ shown_from (Some (form_of (suc n))) (stretches left))) after
 
 -- two texts laid one after the other, before what is still to come
 pub laid : (o one two s t u w : List ℕ) → one ≡ o ++ s → two ≡ one ++ t → w ≡ s ++ (t ++ u) → two ++ u ≡ o ++ w

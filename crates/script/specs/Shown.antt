@@ -1,8 +1,8 @@
 -- Byte strings as they are printed.
-use Rattle.std.specs.Prelude.{ℕ, ◌+◌, ◌/◌, ◌%◌, Bool, if◌then◌else◌, List, [], ◌∷◌, ◌++◌, replicate, decimal, ◌==◌, nat_le, nat_lt}
+use Rattle.std.specs.Prelude.{ℕ, ◌+◌, ◌/◌, ◌%◌, if◌then◌else◌, List, [], ◌∷◌, ◌++◌, replicate, decimal, ◌==◌, nat_le, nat_lt, Option, None, Some}
 use Rattle.std.specs.List.{flat_map}
-use Rattle.script.specs.declared.show.Before.{Before}
-use Rattle.script.specs.declared.show.Before.TheVariants.{Nothing, Plain, Run}
+use Rattle.script.specs.declared.show.RunForm.{RunForm}
+use Rattle.script.specs.declared.show.RunForm.TheVariants.{Plain, Counted}
 
 -- a run of equal bytes: the byte, and how often it stands
 pub record Stretch : Type 0 where
@@ -31,31 +31,31 @@ abbrev pub hex : ℕ → List ℕ
 hex b = hex_char (b / 16) ∷ hex_char (b % 16) ∷ []
 
 -- a run of 4 or more is counted
-abbrev pub counted : ℕ → Bool
-counted times = nat_le 4 times
+abbrev pub form_of : ℕ → RunForm
+form_of times = if nat_le 4 times then Counted else Plain
 
 -- a plus sign stands on either side of a counted run, and nowhere else
-abbrev pub separator : Before → Bool → List ℕ
-separator Nothing long = []
-separator Plain long = if long then 43 ∷ [] else []
-separator Run long = 43 ∷ []
+abbrev pub separator : Option RunForm → RunForm → List ℕ
+separator None form = []
+separator (Some Plain) Plain = []
+separator (Some Plain) Counted = 43 ∷ []
+separator (Some Counted) form = 43 ∷ []
 
 abbrev pub plain : ℕ → ℕ → List ℕ
 plain byte times = flat_map hex (replicate times byte)
 
-abbrev pub run_text : ℕ → ℕ → List ℕ
-run_text byte times = if counted times then hex byte ++ (42 ∷ decimal times) else plain byte times
+abbrev pub run_text : RunForm → ℕ → ℕ → List ℕ
+run_text Plain byte times = plain byte times
+run_text Counted byte times = hex byte ++ (42 ∷ decimal times)
 
-abbrev pub next_before : ℕ → Before
-next_before times = if counted times then Run else Plain
-
--- the runs from one on, after what stood before it
-abbrev pub shown_from : Before → List Stretch → List ℕ
+-- the runs from one on, after the form of the one before it
+abbrev pub shown_from : Option RunForm → List Stretch → List ℕ
 shown_from before [] = []
 shown_from before (g ∷ gs) =
-    separator before (counted g.times) ++ (run_text g.byte g.times ++ shown_from (next_before g.times) gs)
+    separator before (form_of g.times)
+    ++ (run_text (form_of g.times) g.byte g.times ++ shown_from (Some (form_of g.times)) gs)
 
 -- a dash for no bytes, else the runs
 abbrev pub shown : List ℕ → List ℕ
 shown [] = 45 ∷ []
-shown (x ∷ xs) = shown_from Nothing (stretches (x ∷ xs))
+shown (x ∷ xs) = shown_from None (stretches (x ∷ xs))

@@ -19,6 +19,7 @@ pub fn split_line(text: &[u8]) -> (&[u8], &[u8])
 }
 
 /// The lines of a script that are neither empty nor a comment.
+// A struct, since no `impl Iterator` can be handed out.
 #[derive(Drop)]
 pub struct Lines<'a> {
     rest: &'a [u8],

@@ -11,6 +11,7 @@ pub fn leading_run(text: &[u8], mark: u8) -> usize
 }
 
 /// How many bytes stand before the first `mark`: all of them where there is none.
+// As `leading_run` but for the test: one function over a test, with what it requires of the test, is no plainer.
 pub fn bytes_before(text: &[u8], mark: u8) -> usize
     ensures answers { result ≡ len_before mark text.now }
     ensures within { result ≤ length text.now }

@@ -1,6 +1,6 @@
 // Byte strings as they are printed: `-` for none, a run of 4 or more equal bytes as `xx*N`, the rest as plain hex.
 ghost use Rattle.std.specs.Prelude.{◌≡◌, ◌++◌, IfOk, decimal, OnOk, string_bytes};
-ghost use Rattle.script.specs.Shown.{hex, separator, plain, run_text, next_before, shown};
+ghost use Rattle.script.specs.Shown.{hex, separator, plain, run_text, form_of, shown};
 
 use std::alloc::{AllocError, Global};
 
@@ -32,37 +32,59 @@ fn push_plain(out: &mut Vec<u8>, byte: u8, times: usize, heap: Global) -> Result
     out.extend_from_slice(run.as_bytes())
 }
 
-/// What stood before a run: nothing, plain hex or a counted run.
+/// How a run of equal bytes is printed: byte by byte, or one byte and how often it stands.
 #[derive(Clone, Copy)]
-enum Before {
-    Nothing,
+enum RunForm {
     Plain,
-    Run,
+    Counted,
 }
 
-fn push_separator(out: &mut Vec<u8>, before: Before, long: bool) -> Result<(), AllocError>
-    ensures area { OnOk result (out.new.items ≡ out.old.items ++ separator before long) }
+impl RunForm {
+    /// The form of a run of `times` bytes.
+    fn of(times: usize) -> Self
+        ensures answers { result ≡ form_of times }
+    {
+        if times < LONG_RUN {
+            RunForm::Plain
+        } else {
+            RunForm::Counted
+        }
+    }
+}
+
+/// What stands between two runs; `before` is the form of the first one, and there is none before the first run.
+fn push_separator(
+    out: &mut Vec<u8>,
+    before: Option<RunForm>,
+    form: RunForm,
+) -> Result<(), AllocError>
+    ensures area { OnOk result (out.new.items ≡ out.old.items ++ separator before form) }
 {
-    match (before, long) {
-        (Before::Run, _) | (Before::Plain, true) => out.push(b'+')?,
-        (Before::Nothing, _) | (Before::Plain, false) => {}
+    match (before, form) {
+        (Some(RunForm::Counted), _) | (Some(RunForm::Plain), RunForm::Counted) => out.push(b'+')?,
+        (None, _) | (Some(RunForm::Plain), RunForm::Plain) => {}
     }
     Ok(())
 }
 
-fn push_run(out: &mut Vec<u8>, byte: u8, times: usize, heap: Global) -> Result<Before, AllocError>
-    ensures before { IfOk result (λ b. b ≡ next_before times) }
-    ensures area { OnOk result (out.new.items ≡ out.old.items ++ run_text byte times) }
+fn push_run(
+    out: &mut Vec<u8>,
+    byte: u8,
+    times: usize,
+    form: RunForm,
+    heap: Global,
+) -> Result<(), AllocError>
+    ensures area { OnOk result (out.new.items ≡ out.old.items ++ run_text form byte times) }
 {
-    if times < LONG_RUN {
-        push_plain(out, byte, times, heap)?;
-        return Ok(Before::Plain);
+    match form {
+        RunForm::Plain => push_plain(out, byte, times, heap),
+        RunForm::Counted => {
+            let digits = hex_text(byte, heap)?;
+            out.extend_from_slice(digits.as_bytes())?;
+            out.push(b'*')?;
+            show_number(out, times, heap)
+        }
     }
-    let digits = hex_text(byte, heap)?;
-    out.extend_from_slice(digits.as_bytes())?;
-    out.push(b'*')?;
-    show_number(out, times, heap)?;
-    Ok(Before::Run)
 }
 
 /// Bytes, the way a script may write them.
@@ -73,10 +95,12 @@ pub fn show_bytes(out: &mut Vec<u8>, bytes: &[u8], heap: Global) -> Result<(), A
         out.push(b'-')?;
         return Ok(());
     }
-    let mut before = Before::Nothing;
+    let mut before = None;
     for run in bytes.chunk_by(|byte, next| byte == next) {
-        push_separator(out, before, run.len() >= LONG_RUN)?;
-        before = push_run(out, run[0], run.len(), heap)?;
+        let form = RunForm::of(run.len());
+        push_separator(out, before, form)?;
+        push_run(out, run[0], run.len(), form, heap)?;
+        before = Some(form);
     }
     Ok(())
 }

@@ -26,6 +26,7 @@ pub fn split_word(line: &[u8]) -> (&[u8], &[u8])
 }
 
 /// How many words a line has.
+// By `split`, and not by `Words`, which promises its next word and not the list of all: counted so, it is no plainer.
 pub fn count_words(line: &[u8]) -> usize
     ensures answers { result ≡ words_in false line.now }
 {
@@ -35,6 +36,7 @@ pub fn count_words(line: &[u8]) -> usize
 }
 
 /// The words of a line, in their order.
+// A struct, since no `impl Iterator` can be handed out.
 #[derive(Drop)]
 pub struct Words<'a> {
     rest: &'a [u8],
