@@ -136,12 +136,17 @@ fn sum(x: [u32; 8], y: [u32; 8]) -> [u32; 8]
     array::from_fn(|i| x[i].wrapping_add(y[i]))
 }
 
-// The words of a block, each with its most significant byte first.
+// The words of a block, each with its most significant byte first. Filled by index: with the array's `map` a digest takes
+// a seventh longer.
 fn block_words(block: &[u8; BLOCK_SIZE]) -> [u32; 16]
     ensures answers { result ≡ words block.now }
 {
+    let mut words = [0; 16];
     let (fours, _) = block.as_chunks();
-    (*fours.as_array().unwrap()).map(u32::from_be_bytes)
+    for (i, four) in fours.iter().enumerate() {
+        words[i] = u32::from_be_bytes(*four);
+    }
+    words
 }
 
 // The hash value after one more block.
