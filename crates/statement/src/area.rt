@@ -15,7 +15,7 @@ pub fn put(area: &mut [u8], at: usize, from: &[u8])
     }
 }
 
-//// Zeroes the bytes from the place `at` on; where so many are not there the area stays as it is.
+/// Zeroes the bytes from the place `at` on; where so many are not there the area stays as it is.
 pub fn clear(area: &mut [u8], at: usize, size: usize)
     ensures front { at + size ≤ length area.old → take (at + size) area.new ≡ take at area.old ++ replicate size 0 }
     ensures back { (k : ℕ) → at + size ≤ k → drop k area.new ≡ drop k area.old }
