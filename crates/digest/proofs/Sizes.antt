@@ -1,6 +1,7 @@
--- Digests and tags have 32 bytes.
-use Rattle.std.proofs.Common.{◌≡◌, ℕ, zero, suc, ◌*◌, List, [], ◌∷◌, length, fold, sym, refl, ap, ◌∙◌, arith}
-use Rattle.std.specs.List.{flat_map}
+-- Digests and tags have 32 bytes, each below 256.
+use Rattle.std.proofs.Common.{◌≡◌, ℕ, zero, suc, ◌*◌, ◌<◌, List, [], ◌∷◌, length, fold, sym, refl, ap, ◌∙◌, arith}
+use Rattle.std.specs.List.{flat_map, AllByRecursion as All}
+use Rattle.std.proofs.ByRecursion.{All-append}
 use Rattle.digest.specs.Bytes.{Bytes, bytes4}
 use Rattle.digest.specs.Words.{Words}
 use Rattle.digest.specs.Constants.{initial}
@@ -39,3 +40,18 @@ length-sha256 message =
 pub length-hmac : (key message : Bytes) → length (hmac key message) ≡ 32
 unfolding hmac
 length-hmac key message = length-sha256 _
+
+bytes4_below : (n : ℕ) → All (λ b. b < 256) (bytes4 n)
+bytes4_below n = (omega arith, (omega arith, (omega arith, (omega arith, tt))))
+
+joined_below : (ws : Words) → All (λ b. b < 256) (flat_map bytes4 ws)
+joined_below [] = tt
+joined_below (w ∷ ws) = All-append (λ b. b < 256) (bytes4 w) (flat_map bytes4 ws) (bytes4_below w) (joined_below ws)
+
+pub sha256_below : (message : Bytes) → All (λ b. b < 256) (sha256 message)
+unfolding sha256
+sha256_below message = joined_below _
+
+pub hmac_below : (key message : Bytes) → All (λ b. b < 256) (hmac key message)
+unfolding hmac
+hmac_below key message = sha256_below _

@@ -137,7 +137,7 @@ fn sum(x: [u32; 8], y: [u32; 8]) -> [u32; 8]
 }
 
 // The words of a block, each with its most significant byte first. Filled by index: with the array's `map` a digest takes
-// a seventh longer.
+// a seventh longer, and by `from_fn` the answer got no proof.
 fn block_words(block: &[u8; BLOCK_SIZE]) -> [u32; 16]
     ensures answers { result ≡ words block.now }
 {
