@@ -56,6 +56,7 @@ impl<'a, F: Format> AreaBank<'a, F> {
 }
 
 /// The number in the part of a counter.
+// The range is written here and in `raise_at`: one function for it would need a premise, and a clause for each end, for a line.
 fn number_at<F: Format>(area: &[u8], size: usize, counter: u8) -> u32
     requires usable { size_in F.format area.now ≡ Some size }
     requires counter { counter < counters }

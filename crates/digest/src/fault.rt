@@ -27,7 +27,7 @@ impl DigestFault {
         }
     }
 
-    /// What it is about: 0 the message or the working area, 1 the key.
+    /// What it is about, 0 the message or the working area, 1 the key: what is printed of a fault always names a place.
     pub fn place(&self) -> u32
         ensures answers { result ≡ place_of self.now }
     {

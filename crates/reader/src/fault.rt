@@ -49,7 +49,8 @@ impl ReaderFault {
         }
     }
 
-    /// The queue of a challenge, the statement of an answer counted from 0; else 0.
+    /// The queue of a challenge, the statement of an answer counted from 0, else 0: what is printed of a fault always names a
+    /// place.
     pub fn place(&self) -> u32
         ensures answers { result ≡ place_of self.now }
     {
