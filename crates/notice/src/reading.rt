@@ -6,16 +6,10 @@ ghost use Rattle.notice.specs.Record.{signed_of, counter_of, old_of, new_of, que
 
 use super::limits::{PREVIOUS_SIZE, RECORD_HEAD, TEXT_LIMIT};
 use super::spans::Span;
-use statement::{Layout, SIGNED_STATEMENT_SIZE, SignedStatement};
+use statement::{COUNTER_AT, Layout, NEW_AT, OLD_AT, SIGNED_STATEMENT_SIZE, SignedStatement};
 use std::marker::Model;
 
-// Where a signed statement has its counter, old and new, and a record its text length.
-const COUNTER_AT: usize = 8;
-
-const OLD_AT: usize = 9;
-
-const NEW_AT: usize = 13;
-
+// Where a record has its text length.
 const SIZE_AT: usize = SIGNED_STATEMENT_SIZE + PREVIOUS_SIZE;
 
 /// Bytes read as a record. Each method answers for any bytes: numbers past their end are read as 0,

@@ -3,7 +3,10 @@ ghost use Rattle.std.specs.Prelude.{◌≡◌};
 ghost use Rattle.statement.specs.Layout.{IsEncoding, IsDecoding, encoded, decoded, Sized, encoded_signed, decoded_signed, SizedSigned};
 
 use super::area::put;
-use super::types::{SIGNED_STATEMENT_SIZE, STATEMENT_SIZE, SignedStatement, Statement};
+use super::types::{
+    COUNTER_AT, MATTER_AT, NEW_AT, OLD_AT, SIGNED_STATEMENT_SIZE, STATEMENT_SIZE, SignedStatement,
+    Statement,
+};
 
 // By `put`: what five parts of one array, each written in turn, leave of it gets no proof.
 impl From<Statement> for [u8; STATEMENT_SIZE] {
@@ -19,10 +22,10 @@ impl From<Statement> for [u8; STATEMENT_SIZE] {
         } = statement;
         let mut bytes = [0; STATEMENT_SIZE];
         put(&mut bytes, 0, &identity);
-        put(&mut bytes, 8, &[counter]);
-        put(&mut bytes, 9, &old.to_be_bytes());
-        put(&mut bytes, 13, &new.to_be_bytes());
-        put(&mut bytes, 17, &matter);
+        put(&mut bytes, COUNTER_AT, &[counter]);
+        put(&mut bytes, OLD_AT, &old.to_be_bytes());
+        put(&mut bytes, NEW_AT, &new.to_be_bytes());
+        put(&mut bytes, MATTER_AT, &matter);
         bytes
     }
 }
