@@ -1,7 +1,6 @@
 -- What the benchmark's work on a store is: records put one after another, and the bytes that covers then copy.
 use Rattle.std.specs.Prelude.{◌≡◌, ℕ, zero, suc, ◌+◌, ◌/◌, min, Bool, List, [], ◌∷◌, length, Some, None, Option}
 use Rattle.std.specs.Simd.{first_chunks}
-use Rattle.notice.specs.Limits.{record_limit}
 use Rattle.store.specs.Meaning.{Bytes, after_put, found}
 
 -- the greatest number of 32 bits
@@ -16,7 +15,7 @@ Fills held (r ∷ rs) after = (fits : Bool) × Fills (after_put fits held r) rs 
 -- the bytes that a cover copies
 abbrev pub size_of : Option Bytes → ℕ
 size_of None = 0
-size_of (Some r) = min (length r) record_limit
+size_of (Some r) = length r
 
 -- the bytes that covers of the first n positions of queue 0 copy, as far as 32 bits count them
 abbrev pub copied : List Bytes → ℕ → ℕ

@@ -15,6 +15,7 @@ pub extern "C" fn speed_digest(message: &[u8], out: &mut [u8]) -> u32
     ensures answers { result ≡ code (digesting message.now) (length out.old) }
     ensures area { out.new ≡ written (digesting message.now) out.old }
 {
+    // Not `first_chunk_mut`: that a refusal then leaves the area as it was got no proof.
     if out.len() < DIGEST_SIZE {
         return SHORT;
     }

@@ -30,7 +30,7 @@ fn cover_all<S: Store>(store: &S, positions: u32) -> u32
     let mut bytes: u32 = 0;
     for position in 0..positions {
         if let Ok(Some(size)) = store.cover(0, position, &mut area) {
-            bytes = bytes.saturating_add(size.min(RECORD_LIMIT) as u32);
+            bytes = bytes.saturating_add(u32::try_from(size).unwrap_or(u32::MAX));
         }
     }
     bytes
