@@ -81,6 +81,10 @@ pub fn raise_region(region: &mut [u8], by: u32)
 {
     let mut left = by;
     for byte in region.iter_mut() {
+        // With nothing left to clear, no later byte is read or written.
+        if left == 0 {
+            break;
+        }
         let ones = ones_in(*byte);
         if ones > left {
             *byte = clear_each(*byte, left);

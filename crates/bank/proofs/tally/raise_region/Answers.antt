@@ -1,4 +1,5 @@
 use Rattle.std.proofs.Common.{◌≡◌, ◌+◌, ◌-◌, ◌≤◌, ◌<◌, ◌++◌, length, get_or, take, drop, set, sym, ap, ◌∙◌, ap₂, arith}
+use Rattle.std.proofs.lemmas.List.{set-get_or}
 use Rattle.bank.specs.Tally.{bits, ones, raised_by}
 use Rattle.bank.proofs.TallyLaws.{raised_more, raised_stops, raised_ends, raised_clears}
 use Rattle.bank.proofs.tally.raise_region.Goals as goal
@@ -36,3 +37,14 @@ returns-then-ones-left-clause-area c =
 
 pub returns-then-ones-left-clause-law : goal.returns-then-ones-left-clause-law
 returns-then-ones-left-clause-law c = raised_clears c.args.by c.args.region.now _ (returns-then-ones-left-clause-area c)
+
+-- the byte at hand goes back as it is
+pub returns-then-left-eq0-clause-area : goal.returns-then-left-eq0-clause-area
+returns-then-left-eq0-clause-area c =
+    let region = c.loop-byte.region in
+    let i = c.loop-byte.byte-index in
+    set-get_or region i 0 ∙ sym (raised_stops region i) ∙ ap (λ m. take i region ++ raised_by m (drop i region)) (sym c.if-left-eq0.true)
+    ∙ c.loop-byte.invariant
+
+pub returns-then-left-eq0-clause-law : goal.returns-then-left-eq0-clause-law
+returns-then-left-eq0-clause-law c = raised_clears c.args.by c.args.region.now _ (returns-then-left-eq0-clause-area c)
