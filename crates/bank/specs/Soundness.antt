@@ -22,7 +22,7 @@ unfolding numbers_of
 length-numbers_of number s area = length-map (first_chunks s 16 area) number ∙ length-first_chunks s 16 area
 
 -- sixteen zeros under the limit 0
-zeros_sound : Sound (replicate 16 0) 0
+pub zeros_sound : Sound (replicate 16 0) 0
 zeros_sound = record { sixteen = refl; within = λ c h. omega (arith, get_or-replicate {A = ℕ} 16 c 0 0 h); most = lit≤ tt }
 
 -- for any format: what an area that can be used is like makes every area sound
@@ -36,7 +36,7 @@ format_sound f sixteen area = go (cases_Bool (f.usable area))
     go (inr e) = rw e zeros_sound
 
 -- where each passes the test, each is at most the limit
-each_within : (limit : ℕ) (ns : List ℕ) → list_all (λ n. nat_le n limit) ns ≡ true → (c : ℕ) → c < length ns → slice_index ns c ≤ limit
+pub each_within : (limit : ℕ) (ns : List ℕ) → list_all (λ n. nat_le n limit) ns ≡ true → (c : ℕ) → c < length ns → slice_index ns c ≤ limit
 each_within limit [] e c h = absurd (not-suc-le-zero h)
 each_within limit (n ∷ ns) e zero h = leb-true n limit (and_parts (nat_le n limit) (list_all (λ m. nat_le m limit) ns) e).0
 each_within limit (n ∷ ns) e (suc c) h =
