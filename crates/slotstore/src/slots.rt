@@ -143,9 +143,10 @@ impl<'a> Store for SlotStore<'a> {
         ensures rows { OnErr result (slot_rows self.new ≡ slot_rows self.old) }
     {
         let parsed = Record::from(record);
+        // Bytes that are no record are refused whatever is said of them, so nothing is searched for them.
         admit(
             &parsed,
-            self.is_spanned(&parsed.span()),
+            parsed.is_valid() && self.is_spanned(&parsed.span()),
             self.takes(record.len()),
         )?;
         self.append(record);
