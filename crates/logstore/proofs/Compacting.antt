@@ -1,7 +1,7 @@
 -- The invariant of a pass that moves the records that stay together, its start, its steps and its end.
 use Rattle.std.proofs.Common.{◌≡◌, ℕ, ◌+◌, ◌-◌, ◌<◌, ◌≤◌, Bool, true, false, List, ◌∷◌, ◌++◌, length, take, drop, replicate, filter, sym, ap, ◌∙◌, subst, append_assoc, arith}
 use Rattle.std.proofs.lemmas.Bool.{cond-true, cond-false}
-use Rattle.std.proofs.lemmas.List.{drop-drop, append-nil, length-append, length-drop, length-take-le}
+use Rattle.std.proofs.lemmas.List.{drop-drop, append-nil, length-append, length-drop, length-take-le, take-append-drop}
 use borrow.Rule.Slice.PartMut.{put_mid}
 use Rattle.std.proofs.lemmas.List.Edits.{take-paste, drop-paste, length-paste}
 use lib.Seq.{paste}
@@ -139,3 +139,11 @@ compacting_all p start count area zs at used kept end inv reach cleared =
       omega (arith, inv.number),
       omega (arith, inv.behind),
     )
+
+-- bytes pasted where they lie
+pub paste_in_place : (d : List ℕ) (at from n : ℕ) → at ≡ from → paste d at (drop from d) n ≡ d
+paste_in_place d at from n e =
+    ap (λ k. paste d at (drop k d) n) (sym e)
+    ∙ (append_assoc (take at d) (take n (drop at d)) (drop (at + n) d)
+    ∙ (ap (λ z. take at d ++ (take n (drop at d) ++ z)) (sym (drop-drop n at d))
+    ∙ (ap (λ z. take at d ++ z) (take-append-drop n (drop at d)) ∙ take-append-drop at d)))

@@ -1,5 +1,6 @@
 // Changes of a log's area: a record laid behind the last, and kept records moved together.
 ghost use Rattle.std.specs.Prelude.{◌≡◌, ℕ, ◌+◌, ◌<◌, ◌≤◌, ◌-◌, ◌++◌, length, take, drop, replicate, filter};
+ghost use Rattle.std.specs.List.{copy_within};
 ghost use Rattle.store.specs.Meaning.{stays};
 ghost use Rattle.logstore.specs.Log.{length_size, log_limit, two, laid, parse, Layout};
 
@@ -20,6 +21,20 @@ pub(crate) fn lay(area: &mut [u8], at: usize, record: &[u8])
     area[start..start + size].copy_from_slice(record);
 }
 
+/// Moves the bytes between two places down to another. Those that lie there already are left, since `copy_within` takes
+/// them one by one.
+#[tactic(auto, using(crate::proofs::Compacting::paste_in_place))]
+fn move_down(area: &mut [u8], from: usize, end: usize, to: usize)
+    requires down { to ≤ from }
+    requires part { from ≤ end }
+    requires inside { end ≤ length area.old }
+    ensures area { area.new ≡ copy_within area.old from end to }
+{
+    if to != from {
+        area.copy_within(from..end, to);
+    }
+}
+
 /// Moves the records that stay together, in their order, clears what they leave, and tells how far they reach and
 /// how many they are.
 // The place is counted along, since an iterator over the records would borrow the area that the loop writes.
@@ -38,7 +53,7 @@ pub(crate) fn compact(area: &mut [u8], held: Extent, queue: u8, below: u32) -> E
         let size = record.len();
         let next = at + (LENGTH_SIZE + size);
         if Record::from(record).span().is_kept(queue, below) {
-            area.copy_within(at..next, kept.used);
+            move_down(area, at, next, kept.used);
             kept = kept.with(size);
         }
         at = next;

@@ -36,10 +36,10 @@ loop-preserved c =
     elim c.if-is_kept.branch [
       | then-is_kept w ↦
           subst (λ area. G area c.if-is_kept.kept) (sym w.area-is)
-          (subst (G w.copy_within.new.self) (sym (w.kept-is ∙ w.with-kept.ensures.answers))
-          (subst (Compacting (stays c.args.queue c.args.below) c.args.area.now c.args.held.count w.copy_within.new.self (l.at + (length_size + length r)) (l.kept.used + (length_size + length r)) (l.kept.count + 1)) less
+          (subst (G w.move_down.new.area) (sym (w.kept-is ∙ w.with-kept.ensures.answers))
+          (subst (Compacting (stays c.args.queue c.args.below) c.args.area.now c.args.held.count w.move_down.new.area (l.at + (length_size + length r)) (l.kept.used + (length_size + length r)) (l.kept.count + 1)) less
           (compacting-keeps _ _ _ l.area l.at l.kept.used l.kept.count _ l.invariant (omega arith) r is size
-          w.copy_within.new.self ((l.at + (length_size + length r)) - l.at) (sym kept ∙ w.if-is_kept.true) bytes (omega arith) w.copy_within.ensures.after)))
+          w.move_down.new.area ((l.at + (length_size + length r)) - l.at) (sym kept ∙ w.if-is_kept.true) bytes (omega arith) w.move_down.ensures.area)))
       | else-is_kept w ↦
           subst (λ area. G area c.if-is_kept.kept) (sym w.area-is)
           (subst (G l.area) (sym w.kept-is)
