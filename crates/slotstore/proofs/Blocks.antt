@@ -3,7 +3,7 @@ use Rattle.std.proofs.Common.{◌≡◌, ℕ, ◌+◌, ◌-◌, ◌*◌, ◌<◌
 use Rattle.std.proofs.lemmas.List.{drop_at, drop-drop, drop_more, length-take-le, take-append-drop, take_at}
 use Rattle.store.specs.Meaning.{Bytes, Records}
 use Rattle.store.proofs.Sets.{records_take, record_at}
-use Rattle.slotstore.specs.Slots.{slot_size, padded, slotted}
+use Rattle.slotstore.specs.Slots.{slot_size, padded, slotted, slot_copied}
 use Rattle.slotstore.proofs.Images.{length-padded, length-slotted, slotted-append}
 
 -- a list as what stands before a place, the element there, and what follows
@@ -57,3 +57,12 @@ module _ (rs : List Bytes) (zs : List ℕ) (k : ℕ) (within : k < length rs) (g
       ∙ (ap (λ z. slotted (take k rs) ++ z) (sym (append_assoc (padded y) (slotted (drop (k + 1) rs)) zs))
       ∙ (sym (append_assoc (slotted (take k rs)) (padded y ++ slotted (drop (k + 1) rs)) zs)
       ∙ ap (λ z. z ++ zs) (sym (slotted-append (take k rs) (y ∷ drop (k + 1) rs)))))))
+
+-- a slot copied over itself
+pub copied_in_place : (from to : ℕ) (area : List ℕ) → to ≡ from → slot_copied from to area ≡ area
+copied_in_place from to area e =
+    let at = slot_size * to in
+    ap (λ k. slot_copied k to area) (sym e)
+    ∙ (append_assoc (take at area) (take slot_size (drop at area)) (drop (at + slot_size) area)
+    ∙ (ap (λ z. take at area ++ (take slot_size (drop at area) ++ z)) (sym (drop-drop slot_size at area))
+    ∙ (ap (λ z. take at area ++ z) (take-append-drop slot_size (drop at area)) ∙ take-append-drop at area)))

@@ -34,14 +34,18 @@ pub(crate) fn fill_next(area: &mut [u8], rows: &mut [Row], used: &mut usize, byt
     *used += 1;
 }
 
-// Copies the bytes of one slot over those of another.
+// Copies the bytes of one slot over those of another. A slot that is its own target is left, since `copy_within` takes
+// bytes one by one where the two places overlap.
+#[tactic(auto, using(crate::proofs::Blocks::copied_in_place))]
 fn copy_slot(area: &mut [u8], from: usize, to: usize)
     requires from { slot_size * from + slot_size ≤ length area.old }
     requires to { slot_size * to + slot_size ≤ length area.old }
     ensures area { area.new ≡ slot_copied from to area.old }
 {
-    let start = SLOT_SIZE * from;
-    area.copy_within(start..start + SLOT_SIZE, SLOT_SIZE * to);
+    if to != from {
+        let start = SLOT_SIZE * from;
+        area.copy_within(start..start + SLOT_SIZE, SLOT_SIZE * to);
+    }
 }
 
 // Zeroes the bytes of a slot.
