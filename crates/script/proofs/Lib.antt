@@ -1,4 +1,3 @@
-pub mod Digits
 mod Numbers
 mod Parts
 mod Stretches

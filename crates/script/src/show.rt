@@ -1,18 +1,26 @@
 // Byte strings as they are printed: `-` for none, a run of 4 or more equal bytes as `xx*N`, the rest as plain hex.
-ghost use Rattle.std.specs.Prelude.{◌≡◌, ◌++◌, IfOk, decimal, OnOk, string_bytes};
-ghost use Rattle.script.specs.Shown.{hex, separator, plain, run_text, form_of, shown};
+ghost use Rattle.std.specs.Prelude.{◌≡◌, ◌<◌, ◌++◌, decimal, OnOk};
+ghost use Rattle.script.specs.Shown.{hex_char, hex, separator, plain, run_text, form_of, shown};
 
 use std::alloc::{AllocError, Global};
 
 /// From here on a run of equal bytes is printed with its length.
 const LONG_RUN: usize = 4;
 
-/// A byte in two small hex digits.
-#[tactic(auto, using(crate::proofs::Digits::hex_written))]
-fn hex_text(byte: u8, heap: Global) -> Result<String, AllocError>
-    ensures answers { IfOk result (λ text. string_bytes text ≡ hex byte) }
+/// A number below 16 as a small hex digit.
+fn hex_digit_of(digit: u8) -> u8
+    requires { digit < 16 }
+    ensures answers { result ≡ hex_char digit }
 {
-    format!(in heap; "{byte:02x}")
+    char::from_digit(u32::from(digit), 16).unwrap() as u8
+}
+
+/// A byte in two small hex digits.
+// Not `format!`, which makes a text on the heap, for nearly every byte that is printed.
+fn push_hex(out: &mut Vec<u8>, byte: u8) -> Result<(), AllocError>
+    ensures area { OnOk result (out.new.items ≡ out.old.items ++ hex byte) }
+{
+    out.extend_from_slice(&[hex_digit_of(byte / 16), hex_digit_of(byte % 16)])
 }
 
 /// A number in decimal.
@@ -24,12 +32,14 @@ pub fn show_number(out: &mut Vec<u8>, n: usize, heap: Global) -> Result<(), Allo
 }
 
 /// Bytes that stand one by one.
-#[tactic(auto, using(crate::proofs::Digits::repeated_hex))]
-fn push_plain(out: &mut Vec<u8>, byte: u8, times: usize, heap: Global) -> Result<(), AllocError>
+// A `for`, since `repeat` makes a text on the heap, and most runs are one byte long.
+fn push_plain(out: &mut Vec<u8>, byte: u8, times: usize) -> Result<(), AllocError>
     ensures area { OnOk result (out.new.items ≡ out.old.items ++ plain byte times) }
 {
-    let run = hex_text(byte, heap)?.repeat(heap, times)?;
-    out.extend_from_slice(run.as_bytes())
+    for _i in 0..times {
+        push_hex(out, byte)?;
+    }
+    Ok(())
 }
 
 /// How a run of equal bytes is printed: byte by byte, or one byte and how often it stands.
@@ -77,10 +87,9 @@ fn push_run(
     ensures area { OnOk result (out.new.items ≡ out.old.items ++ run_text form byte times) }
 {
     match form {
-        RunForm::Plain => push_plain(out, byte, times, heap),
+        RunForm::Plain => push_plain(out, byte, times),
         RunForm::Counted => {
-            let digits = hex_text(byte, heap)?;
-            out.extend_from_slice(digits.as_bytes())?;
+            push_hex(out, byte)?;
             out.push(b'*')?;
             show_number(out, times, heap)
         }
