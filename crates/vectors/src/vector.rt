@@ -44,19 +44,22 @@ fn next_bytes(words: &mut Words, heap: Global) -> Result<Vec<u8>, Stop> {
 }
 
 /// Whether the call of a kind answers as the words say: its arguments, and then its answer.
+/// All words are read before the call, so that none is made for a line that cannot be read.
 pub fn is_right(kind: VectorKind, words: &mut Words, heap: Global) -> Result<bool, Stop> {
-    let answer = match kind {
+    let (answer, expected) = match kind {
         VectorKind::Digest => {
             let message = next_bytes(words, heap)?;
-            digest(message.as_slice())
+            let expected = next_bytes(words, heap)?;
+            (digest(message.as_slice()), expected)
         }
         VectorKind::Tag => {
             let key = next_bytes(words, heap)?;
             let message = next_bytes(words, heap)?;
+            let expected = next_bytes(words, heap)?;
             let mut working = [0xff; WORKING_SIZE];
-            tag(key.as_slice(), message.as_slice(), &mut working)
+            let answer = tag(key.as_slice(), message.as_slice(), &mut working);
+            (answer, expected)
         }
     };
-    let expected = next_bytes(words, heap)?;
     Ok(answer.is_ok_and(|answer| agrees(&answer, expected.as_slice())))
 }
