@@ -44,15 +44,17 @@ fn repeats(tail: &[u8]) -> Result<u32, Bad> {
 }
 
 /// Adds some bytes a number of times, where there is room for them.
-fn add_copies(once: &[u8], times: u32, out: &mut Vec<u8>, heap: Global) -> Result<(), Stop>
+// A `for`, since `repeat` makes a second row of bytes for each part.
+fn add_copies(once: &[u8], times: u32, out: &mut Vec<u8>) -> Result<(), Stop>
     ensures bound { OnOk result (vec_len out.new ≤ most_bytes) }
 {
     let more = once.len().saturating_mul(times as usize);
     if more.saturating_add(out.len()) > MOST_BYTES as usize {
         return Err(Stop::Line(Bad::TooMany));
     }
-    let copies = once.repeat(heap, times as usize)?;
-    out.extend_from_slice(copies.as_slice())?;
+    for _i in 0..times {
+        out.extend_from_slice(once)?;
+    }
     Ok(())
 }
 
@@ -66,7 +68,7 @@ fn add_part(part: &[u8], out: &mut Vec<u8>, heap: Global) -> Result<(), Stop>
     }
     let once = hex_bytes(digits, heap)?;
     let times = repeats(tail)?;
-    add_copies(once.as_slice(), times, out, heap)
+    add_copies(once.as_slice(), times, out)
 }
 
 /// The bytes that a word says.
