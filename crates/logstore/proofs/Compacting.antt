@@ -30,7 +30,7 @@ next_inside p start count area at used kept left inv some =
     subst (λ bytes. length_size + size_at bytes ≤ length bytes) (sym inv.same) (layout_more left (drop at start) some inv.lies).0
 
 -- the rest of what begins at a place begins at the next
-rest-drop : (at n : ℕ) (area : List ℕ) → n ≡ size_at (drop at area) → rest (drop at area) ≡ drop (at + (length_size + n)) area
+pub rest-drop : (at n : ℕ) (area : List ℕ) → n ≡ size_at (drop at area) → rest (drop at area) ≡ drop (at + (length_size + n)) area
 unfolding rest
 rest-drop at n area e = drop-drop (length_size + size_at (drop at area)) at area ∙ ap (λ k. drop (at + (length_size + k)) area) (sym e)
 

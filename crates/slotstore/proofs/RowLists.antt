@@ -53,7 +53,7 @@ meeting_row span rs = list_any-map row_of (λ row. spans_meet (row_span row) spa
 
 -- the record found is the first that covers the position
 
-found_first :
+pub found_first :
     (q p : ℕ) (rs : List Bytes) (i : ℕ) → i < length rs → covers q p (get_or rs i []) ≡ true →
     ((k : ℕ) → k < i → covers q p (get_or rs k []) ≡ false) → found q p rs ≡ Some (get_or rs i [])
 found_first q p [] i h t b = absurd (omega arith)
@@ -62,7 +62,7 @@ found_first q p (r ∷ rs) (suc i) h t b =
     cond-false (covers q p r) (Some r) (found q p rs) (b 0 (omega arith))
     ∙ found_first q p rs i (omega arith) t (λ k l. b (suc k) (omega arith))
 
-found_nowhere :
+pub found_nowhere :
     (q p : ℕ) (rs : List Bytes) → ((k : ℕ) → k < length rs → covers q p (get_or rs k []) ≡ false) → found q p rs ≡ None
 found_nowhere q p [] b = refl
 found_nowhere q p (r ∷ rs) b =

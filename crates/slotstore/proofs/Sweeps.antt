@@ -77,7 +77,7 @@ next_place p rs from at (Some k) e f =
     }
 
 -- the list after the element at a place took the value of the last one, which is left out
-taken_over :
+pub taken_over :
     (rs : List Bytes) (i last : ℕ) → length rs ≡ last + 1 → i ≤ last →
     take last (take i rs ++ get_or rs last [] ∷ drop (i + 1) rs) ≡ take i rs ++ rolled (drop (i + 1) rs)
 taken_over rs i last n le =
@@ -161,7 +161,7 @@ length-rolled rs =
     length-append (drop m rs) (take m rs) ∙ omega (arith, length-drop m rs, length-take-le m rs (omega arith))
 
 -- what a sweep leaves is what stays, in another order
-swept_shuffled : (n : ℕ) (p : Bytes → Bool) (rs : List Bytes) → length rs ≡ n → IsPermutation (filter p rs) (swept n p rs)
+pub swept_shuffled : (n : ℕ) (p : Bytes → Bool) (rs : List Bytes) → length rs ≡ n → IsPermutation (filter p rs) (swept n p rs)
 swept_shuffled zero p [] h = IsPermutation-refl []
 swept_shuffled zero p (r ∷ rs) h = absurd (omega arith)
 swept_shuffled (suc n) p [] h = IsPermutation-refl []
