@@ -3,7 +3,8 @@
 use script::bad::Stop;
 use script::show::show_bytes;
 use std::alloc::{AllocError, Global};
-use std::fmt::Display;
+use std::fmt;
+use std::fmt::{Display, Write};
 
 #[derive(Drop)]
 pub struct Page {
@@ -35,15 +36,16 @@ impl Page {
     }
 
     /// An indented line.
+    // By `write!`, since `format!` makes a text on the heap for each line.
     pub fn say<D: Display + Drop>(&mut self, words: D) -> Result<(), AllocError> {
-        let line = format!(in self.heap; "  {words}\n")?;
-        self.text.extend_from_slice(line.as_bytes())
+        write!(self, "  {words}\n").map_err(|_| AllocError)
     }
 
     /// A line such as `  area BYTES`.
     pub fn say_bytes(&mut self, label: &str, bytes: &[u8]) -> Result<(), AllocError> {
-        let start = format!(in self.heap; "  {label} ")?;
-        self.text.extend_from_slice(start.as_bytes())?;
+        self.text.extend_from_slice(b"  ")?;
+        self.text.extend_from_slice(label.as_bytes())?;
+        self.text.push(b' ')?;
         show_bytes(&mut self.text, bytes, self.heap)?;
         self.text.extend_from_slice(b"\n")
     }
@@ -74,5 +76,14 @@ impl Page {
             Err(Stop::Line(bad)) => self.say(format_args!("error: {bad}")),
             Err(Stop::Memory) => Err(AllocError),
         }
+    }
+}
+
+/// Adds a text as it is, which fails for want of memory alone.
+impl Write for Page {
+    fn write_str(&mut self, text: &str) -> fmt::Result {
+        self.text
+            .extend_from_slice(text.as_bytes())
+            .map_err(|_| fmt::Error)
     }
 }
