@@ -43,9 +43,7 @@ impl Page {
 
     /// A line such as `  area BYTES`.
     pub fn say_bytes(&mut self, label: &str, bytes: &[u8]) -> Result<(), AllocError> {
-        self.text.extend_from_slice(b"  ")?;
-        self.text.extend_from_slice(label.as_bytes())?;
-        self.text.push(b' ')?;
+        write!(self, "  {label} ").map_err(|_| AllocError)?;
         show_bytes(&mut self.text, bytes, self.heap)?;
         self.text.extend_from_slice(b"\n")
     }
