@@ -18,15 +18,14 @@ pub fn number(word: &[u8], most: u32) -> Result<u32, Bad>
     if !digits_only(word) {
         return Err(Bad::Number);
     }
-    // Digits are text, so this refuses nothing more.
-    let Ok(digits) = str::from_utf8(word) else {
-        return Err(Bad::Number);
-    };
-    let Ok(value) = digits.parse::<u32>() else {
-        return Err(Bad::Range);
-    };
-    if value > most {
-        return Err(Bad::Range);
+    // Counted along the digits: `from_utf8` and `parse` go over them once more each.
+    let mut value: u64 = 0;
+    for c in word {
+        let digit = c.saturating_sub(b'0');
+        value = 10 * value + digit as u64;
+        if value > most as u64 {
+            return Err(Bad::Range);
+        }
     }
-    Ok(value)
+    Ok(value as u32)
 }

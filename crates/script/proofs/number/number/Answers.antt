@@ -1,29 +1,44 @@
-use Rattle.std.proofs.Common.{◌≡◌, true, Ok, sym, arith}
-use Rattle.script.specs.Numbers.{all_digits}
-use Rattle.script.proofs.Numbers.{no_number, too_large, small_enough, digits_are_text, parsed}
+use Rattle.std.proofs.Common.{◌≡◌, ◌+◌, ◌*◌, get_or, drop, fold, sym, ap, ◌∙◌, arith}
+use Rattle.std.proofs.lemmas.List.{at_drop_more, at_drop_all}
+use Rattle.script.specs.Numbers.{digit_more}
+use Rattle.script.proofs.Numbers.{more_digits, no_number, too_large, small_enough}
 use Rattle.script.proofs.number.number.Goals as goal
 
 pub returns-then-not-digits_only : goal.returns-then-not-digits_only
 returns-then-not-digits_only c =
     record { answers = no_number c.args.word.now c.args.most (sym c.if-not-digits_only.ensures.answers) }
 
-pub returns-in_default : goal.returns-in_default
-returns-in_default c = absurd (c.in_default.ensures.cases.0 (digits_are_text c.args.word.now (sym c.if-not-digits_only.ensures.answers)))
-
-pub returns-in_default-parse : goal.returns-in_default-parse
-returns-in_default-parse c =
-    let all : all_digits c.args.word.now ≡ true = sym c.if-not-digits_only.ensures.answers in
-    let read = rw c.in_default-parse.is at (parsed c.args.word.now _ c.parse.result c.in-Ok.ensures.cases.0 c.parse.ensures.value.0 all) in
-    record { answers = too_large c.args.word.now c.args.most all (omega (arith, read, c.ranges.most)) }
-
 pub returns-then-value-most : goal.returns-then-value-most
 returns-then-value-most c =
-    let all : all_digits c.args.word.now ≡ true = sym c.if-not-digits_only.ensures.answers in
-    let read = parsed c.args.word.now _ (Ok c.in-Ok-parse.value) c.in-Ok.ensures.cases.0 c.in-Ok-parse.ensures.value.0 all in
-    record { answers = too_large c.args.word.now c.args.most all (omega (arith, read, c.if-value-most.true)) }
+    let e =
+    at_drop_more (fold digit_more c.loop-c.value) c.args.word.now c.loop-c.c-index 0 c.loop-c-test.true in
+    let v : 10 * c.loop-c.value + c.saturating_sub-digit.result ≡ digit_more c.loop-c.value (get_or c.args.word.now c.loop-c.c-index 0) =
+    ap (λ d. 10 * c.loop-c.value + d) c.saturating_sub-digit.ensures in
+    let f = ap (λ n. fold digit_more n (drop (c.loop-c.c-index + 1) c.args.word.now)) v ∙ sym e ∙ c.loop-c.invariant.1 in
+    let g = more_digits (10 * c.loop-c.value + c.saturating_sub-digit.result) (drop (c.loop-c.c-index + 1) c.args.word.now) in
+    record {
+      answers = too_large c.args.word.now c.args.most (sym c.if-not-digits_only.ensures.answers) (omega arith);
+    }
+
+pub loop-c-preserved : goal.loop-c-preserved
+loop-c-preserved c =
+    let e =
+    at_drop_more (fold digit_more c.loop-c.value) c.args.word.now c.loop-c.c-index 0 c.loop-c-test.true in
+    let v : 10 * c.loop-c.value + c.saturating_sub-digit.result ≡ digit_more c.loop-c.value (get_or c.args.word.now c.loop-c.c-index 0) =
+    ap (λ d. 10 * c.loop-c.value + d) c.saturating_sub-digit.ensures in
+    let f = ap (λ n. fold digit_more n (drop (c.loop-c.c-index + 1) c.args.word.now)) v ∙ sym e ∙ c.loop-c.invariant.1 in
+    (c.if-value-most.false, f)
 
 pub returns : goal.returns
 returns c =
-    let all : all_digits c.args.word.now ≡ true = sym c.if-not-digits_only.ensures.answers in
-    let read = parsed c.args.word.now _ (Ok c.in-Ok-parse.value) c.in-Ok.ensures.cases.0 c.in-Ok-parse.ensures.value.0 all in
-    record { answers = small_enough c.args.word.now c.args.most c.in-Ok-parse.value all read c.if-value-most.false }
+    let e = at_drop_all (fold digit_more c.loop-c.value) c.args.word.now c.loop-c.c-index c.loop-c-test.false in
+    record {
+      answers =
+          small_enough
+          c.args.word.now
+          c.args.most
+          c.loop-c.value
+          (sym c.if-not-digits_only.ensures.answers)
+          (sym e ∙ c.loop-c.invariant.1)
+          c.loop-c.invariant.0;
+    }
