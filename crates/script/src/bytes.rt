@@ -44,16 +44,19 @@ fn repeats(tail: &[u8]) -> Result<u32, Bad> {
 }
 
 /// Adds some bytes a number of times, where there is room for them.
-// A `for`, since `repeat` makes a second row of bytes for each part.
-fn add_copies(once: &[u8], times: u32, out: &mut Vec<u8>) -> Result<(), Stop>
+fn add_copies(once: &[u8], times: u32, out: &mut Vec<u8>, heap: Global) -> Result<(), Stop>
     ensures bound { OnOk result (vec_len out.new ≤ most_bytes) }
 {
     let more = once.len().saturating_mul(times as usize);
     if more.saturating_add(out.len()) > MOST_BYTES as usize {
         return Err(Stop::Line(Bad::TooMany));
     }
-    for _i in 0..times {
+    // One copy goes straight to its place: `repeat` would make a second row of the bytes.
+    if times == 1 {
         out.extend_from_slice(once)?;
+    } else {
+        let copies = once.repeat(heap, times as usize)?;
+        out.extend_from_slice(copies.as_slice())?;
     }
     Ok(())
 }
@@ -68,7 +71,7 @@ fn add_part(part: &[u8], out: &mut Vec<u8>, heap: Global) -> Result<(), Stop>
     }
     let once = hex_bytes(digits, heap)?;
     let times = repeats(tail)?;
-    add_copies(once.as_slice(), times, out)
+    add_copies(once.as_slice(), times, out, heap)
 }
 
 /// The bytes that a word says.

@@ -12,6 +12,8 @@ fn digits_only(word: &[u8]) -> bool
 }
 
 /// The number that a word says, which is at most `most`.
+// Kept out of the loops that call it, which are slower with it inside.
+#[inline(never)]
 pub fn number(word: &[u8], most: u32) -> Result<u32, Bad>
     ensures answers { result ≡ number_in word.now most }
 {
